@@ -1,0 +1,2 @@
+-- What is proved of the definitions: the bench table, and the laws that the layers above cite.
+pub mod BenchTable

@@ -1,0 +1,129 @@
+-- An adapter: the state with both memories, and what an access asks of it.
+use mathlib.Core.Bool.{Bool, true, false}
+use mathlib.Core.List.{List}
+use Prim.Native.Nat.{ℕ, _-_}
+use lib.Bits.{bitAnd, bitOr}
+use Rattle.xosera.specs.declared.VramAddr.{VramAddr}
+use Rattle.xosera.specs.declared.XrAddr.{XrAddr}
+use Rattle.xosera.specs.declared.Timer.{Timer}
+use Rattle.xosera.specs.declared.XrPort.{XrPort}
+use Rattle.xosera.specs.declared.VramPort.{VramPort}
+use Rattle.xosera.specs.declared.Host.{Host}
+use Rattle.xosera.specs.declared.Video.{Video}
+use Rattle.xosera.specs.declared.BlitRegs.{BlitRegs}
+use Rattle.xosera.specs.declared.Engine.{Engine}
+use Rattle.xosera.specs.declared.State.{State}
+use Rattle.xosera.specs.Memories.{Store, noStore}
+
+-- The host's side: all that a host access changes and no blit step touches.
+pub record Side : Type 0 where
+  pub host : Host
+  pub video : Video
+  pub blit : BlitRegs
+  pub xr : List ℕ
+
+-- The host's side, the interrupt status, the blitter and VRAM.
+pub record Adapter : Type 0 where
+  pub side : Side
+  pub status : ℕ
+  pub queued : Bool
+  pub engine : Engine
+  pub vram : List ℕ
+
+-- The adapter of a state and the two memories lent with it.
+abbrev pub adapter : State → List ℕ → List ℕ → Adapter
+adapter s vram xr = record {
+  side = record { host = s .host; video = s .video; blit = s .blit; xr = xr };
+  status = s .status;
+  queued = s .queued;
+  engine = s .engine;
+  vram = vram;
+}
+
+-- The state of an adapter.
+abbrev pub stateOf : Adapter → State
+stateOf a = record {
+  host = a .side .host;
+  video = a .side .video;
+  blit = a .side .blit;
+  engine = a .engine;
+  queued = a .queued;
+  status = a .status;
+}
+
+-- A side with one part changed.
+abbrev pub withHost : Side → Host → Side
+withHost s h = record { host = h; video = s .video; blit = s .blit; xr = s .xr }
+
+abbrev pub withVideo : Side → Video → Side
+withVideo s v = record { host = s .host; video = v; blit = s .blit; xr = s .xr }
+
+abbrev pub withBlit : Side → BlitRegs → Side
+withBlit s b = record { host = s .host; video = s .video; blit = b; xr = s .xr }
+
+abbrev pub withXr : Side → List ℕ → Side
+withXr s xr = record { host = s .host; video = s .video; blit = s .blit; xr = xr }
+
+-- A host with one part changed.
+abbrev pub withTimer : Host → Timer → Host
+withTimer h t = record { timer = t; xr = h .xr; vram = h .vram; intmask = h .intmask; latches = h .latches }
+
+abbrev pub withXrPort : Host → XrPort → Host
+withXrPort h p = record { timer = h .timer; xr = p; vram = h .vram; intmask = h .intmask; latches = h .latches }
+
+abbrev pub withVramPort : Host → VramPort → Host
+withVramPort h p = record { timer = h .timer; xr = h .xr; vram = p; intmask = h .intmask; latches = h .latches }
+
+abbrev pub withIntMask : Host → ℕ → Host
+withIntMask h m = record { timer = h .timer; xr = h .xr; vram = h .vram; intmask = m; latches = h .latches }
+
+abbrev pub withLatches : Host → List ℕ → Host
+withLatches h l = record { timer = h .timer; xr = h .xr; vram = h .vram; intmask = h .intmask; latches = l }
+
+-- A port with one part changed.
+abbrev pub withRdXaddr : XrPort → ℕ → ℕ → XrPort
+withRdXaddr p a buffer = record { rdxaddr = record { 0 = a }; wrxaddr = p .wrxaddr; buffer = buffer }
+
+abbrev pub withWrXaddr : XrPort → ℕ → XrPort
+withWrXaddr p a = record { rdxaddr = p .rdxaddr; wrxaddr = record { 0 = a }; buffer = p .buffer }
+
+abbrev pub withNibbles : VramPort → ℕ → VramPort
+withNibbles p m = record { rdincr = p .rdincr; rdaddr = p .rdaddr; wrincr = p .wrincr; wraddr = p .wraddr; buffer = p .buffer; nibbles = m }
+
+abbrev pub withRdIncr : VramPort → ℕ → VramPort
+withRdIncr p n = record { rdincr = n; rdaddr = p .rdaddr; wrincr = p .wrincr; wraddr = p .wraddr; buffer = p .buffer; nibbles = p .nibbles }
+
+abbrev pub withRdAddr : VramPort → ℕ → VramPort
+withRdAddr p a = record { rdincr = p .rdincr; rdaddr = record { 0 = a }; wrincr = p .wrincr; wraddr = p .wraddr; buffer = p .buffer; nibbles = p .nibbles }
+
+abbrev pub withWrIncr : VramPort → ℕ → VramPort
+withWrIncr p n = record { rdincr = p .rdincr; rdaddr = p .rdaddr; wrincr = n; wraddr = p .wraddr; buffer = p .buffer; nibbles = p .nibbles }
+
+abbrev pub withWrAddr : VramPort → ℕ → VramPort
+withWrAddr p a = record { rdincr = p .rdincr; rdaddr = p .rdaddr; wrincr = p .wrincr; wraddr = record { 0 = a }; buffer = p .buffer; nibbles = p .nibbles }
+
+abbrev pub withBuffer : VramPort → ℕ → VramPort
+withBuffer p b = record { rdincr = p .rdincr; rdaddr = p .rdaddr; wrincr = p .wrincr; wraddr = p .wraddr; buffer = b; nibbles = p .nibbles }
+
+-- What an access does to the interrupt status: nothing, set bits, or clear bits.
+pub data StatusChange : Type 0 where
+  kept : StatusChange
+  raised cleared : ℕ → StatusChange
+
+unfoldable pub changed : StatusChange → ℕ → ℕ
+changed kept status = status
+changed (raised bits) status = bitOr status bits
+changed (cleared bits) status = bitAnd status (127 - bits)
+
+-- What an access asks for: the side after it, at most one store to VRAM, whether the VRAM read buffer is loaded from the
+-- read address, whether a blit is started or queued, and what becomes of the interrupt status.
+pub record Act : Type 0 where
+  pub side : Side
+  pub store : Store
+  pub load : Bool
+  pub start : Bool
+  pub status : StatusChange
+
+-- An access that changes the side alone.
+abbrev pub quiet : Side → Act
+quiet s = record { side = s; store = noStore; load = false; start = false; status = kept }

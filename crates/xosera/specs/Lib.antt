@@ -1,0 +1,13 @@
+-- Document 01 as definitions, a module for each of its chapters, in an order in which each uses only those before it.
+pub mod Words
+pub mod Memories
+pub mod Adapter
+pub mod XrSpace
+pub mod HostBytes
+pub mod TimerTick
+pub mod Blitter
+pub mod Events
+pub mod Refusals
+pub mod Calls
+pub mod Order
+pub mod BenchTable

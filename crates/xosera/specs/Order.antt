@@ -1,0 +1,152 @@
+-- Demand 3 as one claim about every list of events (document 01, "The order of things").
+use mathlib.Core.Path.{_≡_}
+use mathlib.Core.Bool.{Bool, true, false, cond, not, _&&_, _||_}
+use mathlib.Core.List.{List, [], _∷_, _++_}
+use Prim.Native.Nat.{ℕ, zero, suc, _+_, _≤_}
+use lib.Dec.{eqb}
+use lib.ListN.{getD, replicate}
+use Rattle.xosera.specs.Words.{wrap, withoutBit}
+use Rattle.xosera.specs.Memories.{place}
+use Rattle.xosera.specs.Adapter.{Adapter}
+use Rattle.xosera.specs.HostBytes.{wordOf}
+use Rattle.xosera.specs.Blitter.{isConstant, drawing, stepped, blitWords}
+use Rattle.xosera.specs.Events.{Call, Event, Answer, write, read, tick, frameEnd, line, call, step, run}
+use Rattle.xosera.specs.Refusals.{refusal}
+use Rattle.xosera.specs.Calls.{after, answer}
+
+-- The start: an odd write to XM_XDATA, not refused, with 0x49 in 4 and the engine idle.
+abbrev pub startWith : ℕ → Event
+startWith b = call (write 5 true b)
+
+pub record Starts (a : Adapter) (b : ℕ) : Type 0 where
+  pub accepted : refusal a (startWith b) ≡ 0
+  pub words : a .side .host .xr .wrxaddr .0 ≡ 0x49
+  pub idle : a .engine .running ≡ false
+
+-- W times L, as copied at the start.
+unfoldable pub wordsOf : Adapter → ℕ
+wordsOf a = blitWords (a .engine .regs)
+
+-- Steps in a list: a blit step counts as one and a run of n as n, whatever they answer.
+unfoldable pub stepsIn : List Event → ℕ
+stepsIn [] = 0
+stepsIn (call c ∷ es) = stepsIn es
+stepsIn (step ∷ es) = suc (stepsIn es)
+stepsIn (run n ∷ es) = n + stepsIn es
+
+-- The list without its blit steps and runs.
+unfoldable pub withoutSteps : List Event → List Event
+withoutSteps [] = []
+withoutSteps (call c ∷ es) = call c ∷ withoutSteps es
+withoutSteps (step ∷ es) = withoutSteps es
+withoutSteps (run n ∷ es) = withoutSteps es
+
+-- A list of events, each given what the one before it left.
+unfoldable pub afterAll : Adapter → List Event → Adapter
+afterAll a [] = a
+afterAll a (e ∷ es) = afterAll (after a e) es
+
+-- Whether the next blit step takes a VRAM word as source; with a constant it reads none.
+unfoldable pub readsNow : Adapter → ℕ → Bool
+readsNow a w = a .engine .running && not (isConstant (a .engine)) && eqb (place (a .vram) (a .engine .regs .srcs)) w
+
+-- Whether the next blit step writes a nibble of a VRAM word, also with the value it had.
+unfoldable pub writesNow : Adapter → ℕ → Bool
+writesNow a w = a .engine .running && not (eqb (drawing (a .engine) (a .vram) .mask) 0) && eqb (place (a .vram) (a .engine .regs .dstd)) w
+
+-- The words that a blit reads, and those that it writes, found by doing n steps alone. Words are told apart by their
+-- address modulo the VRAM length.
+unfoldable pub blitReads : ℕ → Adapter → ℕ → Bool
+blitReads zero a w = false
+blitReads (suc n) a w = readsNow a w || blitReads n (stepped a) w
+
+unfoldable pub blitWrites : ℕ → Adapter → ℕ → Bool
+blitWrites zero a w = false
+blitWrites (suc n) a w = writesNow a w || blitWrites n (stepped a) w
+
+-- An event that is not refused.
+unfoldable pub accepted : Adapter → Event → Bool
+accepted a e = eqb (refusal a e) 0
+
+-- An access writes a word when it is an odd write to 10 or 11, not refused, under a nibble mask other than 0: the word at 9.
+unfoldable pub callWrites : Adapter → Call → ℕ → Bool
+callWrites a (write r odd b) w =
+    odd && (eqb r 10 || eqb r 11) && accepted a (call (write r odd b))
+    && not (eqb (a .side .host .vram .nibbles) 0) && eqb (place (a .vram) (a .side .host .vram .wraddr .0)) w
+callWrites a (read r odd) w = false
+callWrites a tick w = false
+callWrites a frameEnd w = false
+callWrites a line w = false
+
+-- It loads a word when it is an odd write to 7 or an odd read of 10 or 11, not refused: the word at the new address in 7.
+unfoldable pub callLoads : Adapter → Call → ℕ → Bool
+callLoads a (write r odd b) w =
+    odd && eqb r 7 && accepted a (call (write r odd b)) && eqb (place (a .vram) (wordOf (getD (a .side .host .latches) 7 0) b)) w
+callLoads a (read r odd) w =
+    odd && (eqb r 10 || eqb r 11) && accepted a (call (read r odd))
+    && eqb (place (a .vram) (wrap (a .side .host .vram .rdaddr .0) (a .side .host .vram .rdincr))) w
+callLoads a tick w = false
+callLoads a frameEnd w = false
+callLoads a line w = false
+
+-- It starts or queues a blit when it is an odd write to XM_XDATA, not refused, with 0x49 in 4.
+unfoldable pub callStarts : Adapter → Call → Bool
+callStarts a (write r odd b) = odd && eqb r 5 && accepted a (call (write r odd b)) && eqb (a .side .host .xr .wrxaddr .0) 0x49
+callStarts a (read r odd) = false
+callStarts a tick = false
+callStarts a frameEnd = false
+callStarts a line = false
+
+-- An access that starts or queues no blit, writes no word of `reads` or `writes`, and loads no word of `writes`.
+pub record Apart (reads writes : ℕ → Bool) (a : Adapter) (c : Call) : Type 0 where
+  pub starts-none : callStarts a c ≡ false
+  pub writes-none-read : (w : ℕ) → callWrites a c w ≡ true → reads w ≡ false
+  pub writes-none-written : (w : ℕ) → callWrites a c w ≡ true → writes w ≡ false
+  pub loads-none-written : (w : ℕ) → callLoads a c w ≡ true → writes w ≡ false
+
+-- Every access of a list is so, each judged on what the event before it left.
+abbrev pub AllApart : (ℕ → Bool) → (ℕ → Bool) → Adapter → List Event → Type 0
+AllApart reads writes a [] = Unit {0}
+AllApart reads writes a (call c ∷ es) = Apart reads writes a c × AllApart reads writes (after a (call c)) es
+AllApart reads writes a (step ∷ es) = AllApart reads writes (after a step) es
+AllApart reads writes a (run n ∷ es) = AllApart reads writes (after a (run n)) es
+
+-- The bits of an answer that must agree: all but bit 6 as read at 1, bit 13 as read at 0 (bit 5 of its high byte) and the
+-- line question's yes or no.
+unfoldable pub agreed : Call → ℕ → ℕ
+agreed (read r true) v = cond (eqb r 1) (withoutBit 6 v) v
+agreed (read r false) v = cond (eqb r 0) (withoutBit 5 v) v
+agreed (write r odd b) v = v
+agreed tick v = v
+agreed frameEnd v = v
+agreed line v = 0
+
+-- The answers of the events that stand in both orders, but for those bits; the refusal is included.
+unfoldable pub answers : Adapter → List Event → List Answer
+answers a [] = []
+answers a (call c ∷ es) = record { refusal = answer a (call c) .refusal; value = agreed c (answer a (call c) .value) } ∷ answers (after a (call c)) es
+answers a (step ∷ es) = answers (after a step) es
+answers a (run n ∷ es) = answers (after a (run n)) es
+
+-- All VRAM words, all XR words and every part of the state, but for status bit 6.
+unfoldable pub butBit6 : Adapter → Adapter
+butBit6 a = record { side = a .side; status = withoutBit 6 (a .status); queued = a .queued; engine = a .engine; vram = a .vram }
+
+-- The order that a list is held against: W times L blit steps, then the list without its steps and runs.
+unfoldable pub blitFirst : ℕ → List Event → List Event
+blitFirst n es = replicate n step ++ withoutSteps es
+
+-- Two lists of events end alike and their calls answer alike.
+pub record Alike (a : Adapter) (es fs : List Event) : Type 0 where
+  pub ends : butBit6 (afterAll a es) ≡ butBit6 (afterAll a fs)
+  pub answer-alike : answers a es ≡ answers a fs
+
+-- Demand 3. `a` is any adapter before the start, `s` the adapter after it.
+abbrev pub Demand3 : Type 0
+Demand3 =
+    (a : Adapter) (b : ℕ) (es : List Event) →
+    Starts a b →
+    let s = after a (startWith b) in
+    wordsOf s ≤ stepsIn es →
+    AllApart (blitReads (wordsOf s) s) (blitWrites (wordsOf s) s) s es →
+    Alike s es (blitFirst (wordsOf s) es)

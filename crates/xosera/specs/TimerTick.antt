@@ -1,0 +1,34 @@
+-- Timer ticks and frame ends (document 01, "Host bytes", last paragraph).
+use mathlib.Core.Bool.{Bool, false, cond, _&&_}
+use Prim.Native.Nat.{ℕ, _-_}
+use lib.Dec.{eqb}
+use Rattle.xosera.specs.declared.Timer.{Timer}
+use Rattle.xosera.specs.Words.{wrap}
+use Rattle.xosera.specs.Memories.{noStore}
+use Rattle.xosera.specs.Adapter.{Side, Act, kept, raised, withHost, withTimer}
+
+-- The countdown that this tick brings to 0.
+unfoldable pub expires : Timer → Bool
+expires t = eqb (t .countdown) 1
+
+-- The countdown after a tick: one less, the interval again where that is 0; a stopped one stays 0.
+unfoldable pub counted : Timer → ℕ
+counted t = cond (expires t) (t .interval) (t .countdown - 1)
+
+-- A tick adds 1 to the timer, 0 after 65,535, and lowers a running countdown.
+unfoldable pub ticked : Timer → Timer
+ticked t = record { count = wrap (t .count) 1; countdown = counted t; interval = t .interval; saved = t .saved }
+
+-- A countdown that reaches 0 sets status bit 5.
+unfoldable pub tick : Side → Act
+tick s = record {
+  side = withHost s (withTimer (s .host) (ticked (s .host .timer)));
+  store = noStore;
+  load = false;
+  start = false;
+  status = cond (expires (s .host .timer)) (raised 32) kept;
+}
+
+-- A frame end sets status bit 4.
+unfoldable pub frameEnd : Side → Act
+frameEnd s = record { side = s; store = noStore; load = false; start = false; status = raised 16 }
