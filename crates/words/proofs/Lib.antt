@@ -1,0 +1,3 @@
+-- Laws of words and nibbles that belong to no one function.
+pub mod Finite
+pub mod Nibbles

@@ -1,0 +1,123 @@
+-- A word is its four nibbles, and bitwise operations go nibble by nibble.
+use mathlib.Core.Path.{_≡_, refl, sym, ap, ap₂, _∙_}
+use mathlib.Core.Bool.{Bool, true, false, cond}
+use Prim.Native.Nat.{ℕ, _+_, _*_, _-_, _/_, _%_, _<_, _≤_, _^_}
+use native.Mathlib.Omega.{arith}
+use lib.Bits.{bitAnd, bitOr, and-block, or-block, and-lt, or-lt, and-zero-r, and-mask, or-zero-r, or-zero-l}
+use lib.Dec.{T, eqb, eqb→eq}
+use Rattle.xosera.specs.Words.{bit, nibble, chosen, merged}
+use Rattle.words.specs.Spread.{spread}
+use Rattle.words.proofs.Finite.{allBelow, below}
+
+-- A word of four nibbles, the highest first.
+abbrev pub joined : ℕ → ℕ → ℕ → ℕ → ℕ
+joined a b c d = ((a * 16 + b) * 16 + c) * 16 + d
+
+-- Four digits by division, three times.
+folded : (w q r s a b c d : ℕ) → w ≡ q * 16 + d → q ≡ r * 16 + c → r ≡ s * 16 + b → s ≡ a → w ≡ joined a b c d
+folded w q r s a b c d e f g h = omega arith
+
+digit : (x : ℕ) → x ≡ x / 16 * 16 + x % 16
+digit x = omega arith
+
+small : (x : ℕ) → x < 16 → x ≡ x % 16
+small x h = omega arith
+
+pub split : (w : ℕ) → w < 65536 → w ≡ joined (nibble 3 w) (nibble 2 w) (nibble 1 w) (nibble 0 w)
+unfolding nibble
+split w h =
+    let a : w / 256 ≡ w / 16 / 16 = omega arith in
+    let b : w / 4096 ≡ w / 16 / 16 / 16 = omega arith in
+    let l : w / 4096 < 16 = omega arith in
+    let z : w / 1 ≡ w = omega arith in
+    rw (a, b, z) (folded w (w / 16) (w / 16 / 16) (w / 16 / 16 / 16) _ _ _ _ (digit w) (digit (w / 16)) (digit (w / 16 / 16)) (small (w / 16 / 16 / 16) (rw b at l)))
+
+pub nibble-lt : (k w : ℕ) → nibble k w < 16
+unfolding nibble
+nibble-lt k w = omega arith
+
+module _ (a b c d a′ b′ c′ d′ : ℕ) (hb : b < 16) (hc : c < 16) (hd : d < 16) (hb′ : b′ < 16) (hc′ : c′ < 16) (hd′ : d′ < 16) where
+  pub and-joined : bitAnd (joined a b c d) (joined a′ b′ c′ d′) ≡ joined (bitAnd a a′) (bitAnd b b′) (bitAnd c c′) (bitAnd d d′)
+  and-joined = rw (and-block 4 ((a * 16 + b) * 16 + c) ((a′ * 16 + b′) * 16 + c′) d d′, and-block 4 (a * 16 + b) (a′ * 16 + b′) c c′, and-block 4 a a′ b b′)
+
+  pub or-joined : bitOr (joined a b c d) (joined a′ b′ c′ d′) ≡ joined (bitOr a a′) (bitOr b b′) (bitOr c c′) (bitOr d d′)
+  or-joined = rw (or-block 4 ((a * 16 + b) * 16 + c) ((a′ * 16 + b′) * 16 + c′) d d′, or-block 4 (a * 16 + b) (a′ * 16 + b′) c c′, or-block 4 a a′ b b′)
+
+-- Four ones where the bit is set.
+abbrev full : Bool → ℕ
+full b = cond b 15 0
+
+full-lt : (b : Bool) → full b < 16
+full-lt true = omega arith
+full-lt false = omega arith
+
+scaled : (b : Bool) (k : ℕ) → cond b (15 * k) 0 ≡ full b * k
+scaled true k = refl
+scaled false k = omega arith
+
+pub spread-joined : (m : ℕ) → spread m ≡ joined (full (bit 3 m)) (full (bit 2 m)) (full (bit 1 m)) (full (bit 0 m))
+unfolding spread
+spread-joined m = rw (scaled (bit 3 m) 4096, scaled (bit 2 m) 256, scaled (bit 1 m) 16, scaled (bit 0 m) 1) (omega arith)
+
+-- One nibble: the new one under ones, the old one under zeros.
+one : (b : Bool) (old new : ℕ) → old < 16 → new < 16 → bitOr (bitAnd old (15 - full b)) (bitAnd new (full b)) ≡ cond b new old
+one true old new ho hn = rw (and-zero-r old, and-mask new 4, or-zero-l) (omega arith)
+one false old new ho hn = rw (and-zero-r new, and-mask old 4, or-zero-r) (omega arith)
+
+-- A word merged by a mask of 16 bits is the word merged nibble by nibble.
+pub merged-bits : (m old new : ℕ) → old < 65536 → new < 65536 → bitOr (bitAnd old (65535 - spread m)) (bitAnd new (spread m)) ≡ merged m old new
+unfolding merged chosen
+merged-bits m old new ho hn =
+    rw (spread-joined m, complement (bit 3 m) (bit 2 m) (bit 1 m) (bit 0 m)) (blended (bit 3 m) (bit 2 m) (bit 1 m) (bit 0 m))
+  where
+    complement : (p q r s : Bool) → 65535 - joined (full p) (full q) (full r) (full s) ≡ joined (15 - full p) (15 - full q) (15 - full r) (15 - full s)
+    complement p q r s = omega (arith, full-lt p, full-lt q, full-lt r, full-lt s)
+
+    rest-lt : (b : Bool) → 15 - full b < 16
+    rest-lt b = omega arith
+
+    o : (k : ℕ) → nibble k old < 16
+    o k = nibble-lt k old
+
+    n : (k : ℕ) → nibble k new < 16
+    n k = nibble-lt k new
+
+    blended : (p q r s : Bool) →
+        bitOr (bitAnd old (joined (15 - full p) (15 - full q) (15 - full r) (15 - full s))) (bitAnd new (joined (full p) (full q) (full r) (full s)))
+        ≡ cond p (nibble 3 new) (nibble 3 old) * 16 ^ 3 + cond q (nibble 2 new) (nibble 2 old) * 16 ^ 2
+        + cond r (nibble 1 new) (nibble 1 old) * 16 ^ 1 + cond s (nibble 0 new) (nibble 0 old) * 16 ^ 0
+    blended p q r s =
+        ap₂ (λ (x y : ℕ). bitOr (bitAnd x (joined (15 - full p) (15 - full q) (15 - full r) (15 - full s))) (bitAnd y (joined (full p) (full q) (full r) (full s)))) (split old ho) (split new hn)
+        ∙ ap₂ bitOr
+        (and-joined (nibble 3 old) (nibble 2 old) (nibble 1 old) (nibble 0 old) (15 - full p) (15 - full q) (15 - full r) (15 - full s)
+        (o 2) (o 1) (o 0) (rest-lt q) (rest-lt r) (rest-lt s))
+        (and-joined (nibble 3 new) (nibble 2 new) (nibble 1 new) (nibble 0 new) (full p) (full q) (full r) (full s)
+        (n 2) (n 1) (n 0) (full-lt q) (full-lt r) (full-lt s))
+        ∙ or-joined _ _ _ _ _ _ _ _
+        (and-lt 4 (nibble 2 old) (15 - full q) (o 2) (rest-lt q)) (and-lt 4 (nibble 1 old) (15 - full r) (o 1) (rest-lt r)) (and-lt 4 (nibble 0 old) (15 - full s) (o 0) (rest-lt s))
+        (and-lt 4 (nibble 2 new) (full q) (n 2) (full-lt q)) (and-lt 4 (nibble 1 new) (full r) (n 1) (full-lt r)) (and-lt 4 (nibble 0 new) (full s) (n 0) (full-lt s))
+        ∙ rw (one p (nibble 3 old) (nibble 3 new) (o 3) (n 3), one q (nibble 2 old) (nibble 2 new) (o 2) (n 2), one r (nibble 1 old) (nibble 1 new) (o 1) (n 1), one s (nibble 0 old) (nibble 0 new) (o 0) (n 0)) (omega arith)
+
+-- A bit of a mask, also of the mask cut to four bits.
+bit-cut : (m k : ℕ) → m % 16 / 2 ^ k % 2 ≡ m / 2 ^ k % 2 → bit k (m % 16) ≡ bit k m
+unfolding bit
+bit-cut m k e = ap (λ (x : ℕ). eqb x 1) e
+
+spread-cut : (m : ℕ) → spread (m % 16) ≡ spread m
+unfolding spread
+spread-cut m = rw (bit-cut m 3 (omega arith), bit-cut m 2 (omega arith), bit-cut m 1 (omega arith), bit-cut m 0 (omega arith))
+
+-- The mask's four bits moved apart and widened by multiplication.
+abbrev pub paired : ℕ → ℕ
+paired m = bitAnd (m * 65) 0x0303
+
+abbrev pub singled : ℕ → ℕ
+singled m = bitAnd (paired m * 9) 0x1111
+
+right : ℕ → Bool
+unfolding spread bit
+right m = eqb (singled m * 15) (spread m)
+
+pub spread-by-product : (m : ℕ) → singled (m % 16) * 15 ≡ spread m
+unfolding spread bit right
+spread-by-product m = eqb→eq (singled (m % 16) * 15) (spread (m % 16)) (below 16 right tt (m % 16) (omega arith)) ∙ spread-cut m

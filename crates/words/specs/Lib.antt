@@ -1,0 +1,2 @@
+-- What the words' inner functions mean.
+pub mod Spread
