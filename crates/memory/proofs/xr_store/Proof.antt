@@ -1,0 +1,124 @@
+-- Each part by its range; a store to the colour part is a store to the whole, 5,120 words on.
+use mathlib.Core.Path.{sym, _∙_}
+use Prim.Native.Nat.{_-_}
+use native.Mathlib.Omega.{arith}
+use borrow.Rule.Slice.PartMut.{set-mid-at, mid-len}
+use Rattle.xosera.specs.XrSpace.{xrMemoryWrite}
+use Rattle.memory.proofs.Parts.{within-bounds}
+use borrow.Author.Needs.{needs}
+use Rattle.memory.proofs.xr_store.Statement.{statement}
+use Rattle.memory.proofs.xr_store.Tie as tie
+
+within-requires : tie.Need-within-requires
+within-requires c κs = search needs
+
+sub-xr : tie.Need-sub-xr
+sub-xr c = within-bounds 0x4000 5120 _ (sym (c .before .within .ensures) ∙ c .if1 .taken) .0
+
+cast-xr : tie.Need-cast-xr
+cast-xr c = search needs
+
+mul-xr : tie.Need-mul-xr
+mul-xr c = search needs
+
+slice-write-xr : tie.Need-slice-write-xr
+slice-write-xr c = omega (arith, c .before .before .before .pre, within-bounds 0x4000 5120 _ (sym (c .before .within .ensures) ∙ c .if1 .taken))
+
+same-length : tie.Need-same-length
+same-length c = search needs
+
+returns : tie.Need-returns
+unfolding xrMemoryWrite
+returns c = rw (sym (c .before .within .ensures) ∙ c .if1 .taken)
+
+within-requires-2 : tie.Need-within-requires-2
+within-requires-2 c κs = search needs
+
+sub-put : tie.Need-sub-put
+sub-put c = search needs
+
+part-put-start : tie.Need-part-put-start
+part-put-start c = search needs
+
+part-put-end : tie.Need-part-put-end
+part-put-end c = search needs
+
+sub-put-2 : tie.Need-sub-put-2
+sub-put-2 c = within-bounds 0x8000 512 _ (sym (c .before .before .within2 .ensures) ∙ c .before .if2 .taken) .0
+
+cast-put : tie.Need-cast-put
+cast-put c = search needs
+
+put-requires : tie.Need-put-requires
+put-requires c κs =
+    let xr = c .before .before .before .before .before .before .args .xr .now in
+    omega (arith, mid-len 5120 5632 xr (omega (arith, c .before .before .before .before .before .before .pre)), within-bounds 0x8000 512 _ (sym (c .before .before .within2 .ensures) ∙ c .before .if2 .taken))
+
+same-length-2 : tie.Need-same-length-2
+same-length-2 c = search needs
+
+returns-2 : tie.Need-returns-2
+unfolding xrMemoryWrite
+returns-2 c =
+    let a = c .before .before .before .before .before .before .before .before .before .args in
+    rw (c .before .before .put .ensures, (sym (c .before .before .before .before .before .before .before .within .ensures) ∙ c .before .before .before .before .before .before .if1 .left), (sym (c .before .before .before .before .before .within2 .ensures) ∙ c .before .before .before .before .if2 .taken))
+    (set-mid-at 5120 512 (a .a .0 - 0x8000) (a .xr .now) (a .w) (omega (arith, mid-len 5120 5632 (a .xr .now) (omega (arith, c .before .before .before .before .before .before .before .before .before .pre)), within-bounds 0x8000 512 _ (sym (c .before .before .before .before .before .within2 .ensures) ∙ c .before .before .before .before .if2 .taken))))
+
+within-requires-3 : tie.Need-within-requires-3
+within-requires-3 c κs = search needs
+
+sub-xr-2 : tie.Need-sub-xr-2
+sub-xr-2 c = within-bounds 0xC000 1024 _ (sym (c .before .within3 .ensures) ∙ c .if3 .taken) .0
+
+cast-xr-2 : tie.Need-cast-xr-2
+cast-xr-2 c = search needs
+
+add-xr : tie.Need-add-xr
+add-xr c = search needs
+
+mul-xr-2 : tie.Need-mul-xr-2
+mul-xr-2 c = search needs
+
+slice-write-xr-2 : tie.Need-slice-write-xr-2
+slice-write-xr-2 c = omega (arith, c .before .before .before .before .before .before .before .pre, within-bounds 0xC000 1024 _ (sym (c .before .within3 .ensures) ∙ c .if3 .taken))
+
+same-length-3 : tie.Need-same-length-3
+same-length-3 c = search needs
+
+returns-3 : tie.Need-returns-3
+unfolding xrMemoryWrite
+returns-3 c = rw ((sym (c .before .before .before .before .before .within .ensures) ∙ c .before .before .before .before .if1 .left), (sym (c .before .before .before .within2 .ensures) ∙ c .before .before .if2 .left), (sym (c .before .within3 .ensures) ∙ c .if3 .taken))
+
+returns-4 : tie.Need-returns-4
+unfolding xrMemoryWrite
+returns-4 c = rw ((sym (c .before .before .before .before .before .within .ensures) ∙ c .before .before .before .before .if1 .left), (sym (c .before .before .before .within2 .ensures) ∙ c .before .before .if2 .left), (sym (c .before .within3 .ensures) ∙ c .if3 .left))
+
+pub xr-store-spec : {M : Type 1} → statement M
+xr-store-spec =
+    tie.close
+    (tie.spec
+    within-requires
+    sub-xr
+    cast-xr
+    mul-xr
+    slice-write-xr
+    same-length
+    returns
+    within-requires-2
+    sub-put
+    part-put-start
+    part-put-end
+    sub-put-2
+    cast-put
+    put-requires
+    same-length-2
+    returns-2
+    within-requires-3
+    sub-xr-2
+    cast-xr-2
+    add-xr
+    mul-xr-2
+    slice-write-xr-2
+    same-length-3
+    returns-3
+    returns-4)
