@@ -1,2 +1,4 @@
 -- What is proved of the definitions: the bench table, and the laws that the layers above cite.
 pub mod BenchTable
+pub mod Branches
+pub mod EngineLaws

@@ -1,0 +1,32 @@
+-- What a value chosen by a test is, and what a test of several parts says.
+use mathlib.Core.Path.{_≡_, refl}
+use mathlib.Core.Bool.{Bool, true, false, cond, not, _||_, and-eq-true-iff, false≢true}
+use mathlib.Core.Logic.{_↔_}
+use Prim.Native.Nat.{ℕ, _≤_}
+use lib.Dec.{eqb, leb}
+use borrow.Author.Tests.{eqb-true, eq-eqb, leb-true, le-leb}
+
+module _ {ℓ} {A : Type ℓ} where
+  pub cond-yes : {b : Bool} (x y : A) → b ≡ true → cond b x y ≡ x
+  cond-yes x y h = rw h
+
+  pub cond-no : {b : Bool} (x y : A) → b ≡ false → cond b x y ≡ y
+  cond-no x y h = rw h
+
+  -- What holds of both choices holds of the chosen one.
+  pub cond-either : (P : A → Type 0) (b : Bool) (x y : A) → P x → P y → P (cond b x y)
+  cond-either P true x y p q = p
+  cond-either P false x y p q = q
+
+pub eqb-iff : (a b : ℕ) → (eqb a b ≡ true) ↔ (a ≡ b)
+eqb-iff a b = (eqb-true a b, eq-eqb a b)
+
+pub leb-iff : (a b : ℕ) → (leb a b ≡ true) ↔ (a ≤ b)
+leb-iff a b = (leb-true a b, le-leb a b)
+
+pub implies-iff : (a b : Bool) → (not a || b ≡ true) ↔ (a ≡ true → b ≡ true)
+implies-iff true b = (λ h _. h, λ f. f refl)
+implies-iff false b = (λ _ h. absurd (false≢true h), λ _. refl)
+
+-- What a test says, part by part.
+pub ruleset parts = (and-eq-true-iff, implies-iff, eqb-iff, leb-iff)
