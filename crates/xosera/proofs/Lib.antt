@@ -2,3 +2,5 @@
 pub mod BenchTable
 pub mod Branches
 pub mod EngineLaws
+pub mod StepCases
+pub mod RangeLaws
