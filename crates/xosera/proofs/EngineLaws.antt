@@ -1,6 +1,6 @@
 -- The engine alone: each step keeps it in range and draws one of the words that it has left.
 use mathlib.Core.Path.{_≡_, refl, sym, _∙_}
-use mathlib.Core.Bool.{Bool, true, false}
+use mathlib.Core.Bool.{Bool, true, false, cond}
 use mathlib.Core.List.{List}
 use Prim.Native.Nat.{ℕ, suc, _+_, _*_, _-_, _≤_, _<_}
 use native.Mathlib.Omega.{arith}
@@ -12,7 +12,7 @@ use Rattle.xosera.specs.declared.BlitRegs.{BlitRegs}
 use Rattle.xosera.specs.declared.Engine.{Engine}
 use Rattle.xosera.specs.Memories.{Store, stored, place, word}
 use Rattle.xosera.specs.Words.{merged}
-use Rattle.xosera.specs.Blitter.{noRegs, idle, launched, lastWord, lastStep, nextKept, next, drawing, drawn, blitWords, engineLeft}
+use Rattle.xosera.specs.Blitter.{noRegs, idle, launched, lastWord, lastStep, nextKept, next, drawing, drawn, succeeding, blitWords, engineLeft}
 use Rattle.xosera.specs.Refusals.{runningInRange, isNoRegs, idleInRange, engineInRange}
 use Rattle.xosera.proofs.Branches.{cond-yes, cond-no, cond-either, parts}
 
@@ -120,6 +120,19 @@ next-in-range e v r i h = running-in-range (next e v) refl (next-running e v (ru
 
 pub next-left : (e : Engine) (v : List ℕ) → e .running ≡ true → engineInRange e ≡ true → lastStep e ≡ false → engineLeft e ≡ suc (engineLeft (next e v))
 next-left e v r i h = next-counts e v (running-facts e r i) h r
+
+-- An idle engine has no word left, a running one has some, and the one after a blit has those of the queued blit.
+pub idle-left : (e : Engine) → e .running ≡ false → engineLeft e ≡ 0
+unfolding engineLeft
+idle-left e r = cond-no _ _ r
+
+pub running-left : (e : Engine) → e .running ≡ true → engineInRange e ≡ true → 0 < engineLeft e
+running-left e r h = let w = running-facts e r h .word-within in rw (left-running e r) (omega arith)
+
+pub succeeding-left : (q : Bool) (r : BlitRegs) → engineLeft (succeeding q r) ≡ cond q (blitWords r) 0
+unfolding succeeding engineLeft
+succeeding-left true r = launched-left r
+succeeding-left false r = refl
 
 -- What is drawn keeps its length.
 pub stored-length : (s : Store) (v : List ℕ) → length (stored s v) ≡ length v

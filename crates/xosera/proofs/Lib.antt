@@ -4,3 +4,5 @@ pub mod Branches
 pub mod EngineLaws
 pub mod StepCases
 pub mod RangeLaws
+pub mod RefusalLaws
+pub mod StepLaws
