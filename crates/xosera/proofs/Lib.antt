@@ -1,2 +1,8 @@
 -- What is proved of the definitions: the bench table, and the laws that the layers above cite.
 pub mod BenchTable
+pub mod Branches
+pub mod EngineLaws
+pub mod StepCases
+pub mod RangeLaws
+pub mod RefusalLaws
+pub mod StepLaws

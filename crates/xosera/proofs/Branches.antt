@@ -1,0 +1,57 @@
+-- What a value chosen by a test is, and what a test of several parts says.
+use mathlib.Core.Path.{_≡_, refl}
+use mathlib.Core.Bool.{Bool, true, false, cond, not, _||_, and-eq-true-iff, false≢true}
+use mathlib.Core.List.{List, [], _∷_}
+use mathlib.Core.Logic.{_↔_}
+use Prim.Native.Nat.{ℕ, zero, suc, _≤_}
+use lib.Dec.{eqb, leb}
+use lib.ListN.{length, getD}
+use borrow.Author.Tests.{eqb-true, eq-eqb, leb-true, le-leb}
+
+module _ {ℓ} {A : Type ℓ} where
+  pub cond-yes : {b : Bool} (x y : A) → b ≡ true → cond b x y ≡ x
+  cond-yes x y h = rw h
+
+  pub cond-no : {b : Bool} (x y : A) → b ≡ false → cond b x y ≡ y
+  cond-no x y h = rw h
+
+  -- What follows from the test for the one choice and from its failing for the other holds of the chosen one.
+  pub cond-cases : (P : A → Type 0) (b : Bool) (x y : A) → (b ≡ true → P x) → (b ≡ false → P y) → P (cond b x y)
+  cond-cases P true x y p q = p refl
+  cond-cases P false x y p q = q refl
+
+  -- What holds of both choices holds of the chosen one.
+  pub cond-either : (P : A → Type 0) (b : Bool) (x y : A) → P x → P y → P (cond b x y)
+  cond-either P true x y p q = p
+  cond-either P false x y p q = q
+
+  pub cond-same : (b : Bool) (x : A) → cond b x x ≡ x
+  cond-same true x = refl
+  cond-same false x = refl
+
+  -- What holds of each entry of a table, and of the value outside it, holds wherever one looks.
+  abbrev pub Every : (A → Type 0) → List A → Type 0
+  Every P [] = Unit {0}
+  Every P (x ∷ xs) = P x × Every P xs
+
+  pub getD-every : (P : A → Type 0) (l : List A) (i : ℕ) (d : A) → Every P l → P d → P (getD l i d)
+  getD-every P [] i d all else = else
+  getD-every P (x ∷ xs) zero d all else = all .0
+  getD-every P (x ∷ xs) (suc i) d all else = getD-every P xs i d (all .1) else
+
+pub length-cond {ℓ} : {A : Type ℓ} (b : Bool) (x y : List A) → length (cond b x y) ≡ cond b (length x) (length y)
+length-cond true x y = refl
+length-cond false x y = refl
+
+pub eqb-iff : (a b : ℕ) → (eqb a b ≡ true) ↔ (a ≡ b)
+eqb-iff a b = (eqb-true a b, eq-eqb a b)
+
+pub leb-iff : (a b : ℕ) → (leb a b ≡ true) ↔ (a ≤ b)
+leb-iff a b = (leb-true a b, le-leb a b)
+
+pub implies-iff : (a b : Bool) → (not a || b ≡ true) ↔ (a ≡ true → b ≡ true)
+implies-iff true b = (λ h _. h, λ f. f refl)
+implies-iff false b = (λ _ h. absurd (false≢true h), λ _. refl)
+
+-- What a test says, part by part.
+pub ruleset parts = (and-eq-true-iff, implies-iff, eqb-iff, leb-iff)
