@@ -1,7 +1,6 @@
 -- Every event keeps the state in its ranges and both memories at their lengths.
 use mathlib.Core.Path.{_≡_, refl, sym, _∙_, ap}
 use mathlib.Core.Bool.{Bool, true, false, cond, _&&_, _||_, false≢true}
-use mathlib.Core.List.{[], _∷_}
 use Prim.Native.Nat.{ℕ, zero, suc, _-_, _≤_, _<_}
 use native.Mathlib.Omega.{arith}
 use lib.Bits.{bitOr, or-lt, and-le-l}
@@ -13,7 +12,7 @@ use Rattle.xosera.specs.declared.BlitRegs.{BlitRegs}
 use Rattle.xosera.specs.declared.Engine.{Engine}
 use Rattle.xosera.specs.Adapter.{Side, Adapter, Act, StatusChange, kept, raised, cleared, changed, stateOf, withTimer}
 use Rattle.xosera.specs.XrSpace.{within, xrMemoryWrite, xrWrite}
-use Rattle.xosera.specs.HostBytes.{latched, xrLoaded, vramLoad, writeWord, writeByte, timerSaved, readByte, writeSysCtrl, writeIntCtrl, writeTimer, writeRdXaddr, writeWrXaddr, writeXdata, writeRdIncr, writeRdAddr, writeWrIncr, writeWrAddr, writeData, writeNothing}
+use Rattle.xosera.specs.HostBytes.{latched, xrLoaded, vramLoad, writeWord, writeByte, timerSaved, readByte, writeSysCtrl, writeIntCtrl, writeTimer, writeNothing, writes}
 use Rattle.xosera.specs.TimerTick as TimerTick
 use Rattle.xosera.specs.TimerTick.{expires, counted, ticked}
 use Rattle.xosera.specs.Blitter.{idle, launched, next, succeeding, stepped, steps}
@@ -187,9 +186,7 @@ module _ (s : Side) where
   unfolding writeWord hostInRange vramLoad xrLoaded
   write-fits r w = getD-every (λ (f : Side → ℕ → Act). Fits s (f s w)) r writeNothing rows (fits _ refl refl refl)
     where
-      rows : Every (λ (f : Side → ℕ → Act). Fits s (f s w))
-          (writeSysCtrl ∷ writeIntCtrl ∷ writeTimer ∷ writeRdXaddr ∷ writeWrXaddr ∷ writeXdata
-          ∷ writeRdIncr ∷ writeRdAddr ∷ writeWrIncr ∷ writeWrAddr ∷ writeData ∷ writeData ∷ [])
+      rows : Every (λ (f : Side → ℕ → Act). Fits s (f s w)) writes
       rows =
           sys-ctrl-fits w also int-ctrl-fits w also timer-write-fits w also fits _ refl refl refl also fits _ refl refl refl
           also xr-write-fits _ _ w refl refl also fits _ refl refl refl also fits _ refl refl refl also fits _ refl refl refl
