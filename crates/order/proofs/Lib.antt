@@ -12,3 +12,4 @@ pub mod Answers
 pub mod Lists
 pub mod OrderOfWork
 pub mod Demand3
+pub mod Witness

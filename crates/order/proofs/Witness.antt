@@ -1,0 +1,104 @@
+-- The witness meets demand 3's conditions: a test over the whole list, which antt computes, and lemmas that turn the test into the
+-- conditions.
+use mathlib.Core.Path.{_≡_, refl, ap, _∙_}
+use mathlib.Core.Bool.{Bool, true, false, not, _&&_, _||_}
+use mathlib.Core.List.{List, [], _∷_}
+use Prim.Native.Nat.{ℕ}
+use lib.Dec.{eqb, lit≤}
+use lib.ListN.{getD}
+use borrow.Author.Tests.{eqb-true, not-true}
+use Rattle.xosera.specs.Words.{wrap, bit, nibble, chosen, merged, shifted, combined, isColour, colourMask}
+use Rattle.xosera.specs.Memories.{isVramLength, isXrLength, place, word, stored}
+use Rattle.xosera.specs.Adapter.{Adapter, changed}
+use Rattle.xosera.specs.XrSpace.{within, isBlitRegister, playfieldRead, registerRead, xrRead, put, videoWrite, blitWrite, xrMemoryWrite, xrWrite}
+use Rattle.xosera.specs.HostBytes.{wordOf, latched, xrLoaded, vramLoad, writeWord, writeByte, shown, highByte, lowByte, timerSaved, readByte}
+use Rattle.xosera.specs.TimerTick as TimerTick
+use Rattle.xosera.specs.TimerTick.{expires, counted, ticked}
+use Rattle.xosera.specs.Blitter.{launched, isConstant, fetched, sourced, firstMask, lastWord, lastMask, testMask, writeMask, drawing, drawn, lastStep, nextSource, nextDest, nextKept, next, succeeding, stepped, steps, blitWords, engineLeft, wordsLeft}
+use Rattle.xosera.specs.Events.{Call, Event, write, read, tick, frameEnd, line, call, step, run}
+use Rattle.xosera.specs.Refusals.{timerInRange, hostInRange, runningInRange, isNoRegs, idleInRange, engineInRange, inRange, badVram, badXr, badState, badRegister, blitterFull, reconfigures, applying, lowest, refusal}
+use Rattle.xosera.specs.Calls.{actOf, vramLoaded, startedEngine, perform, done, after, lineUp, given, answer}
+use Rattle.xosera.specs.Order.{wordsOf, stepsIn, afterAll, readsNow, writesNow, blitReads, blitWrites, accepted, callWrites, callLoads, callStarts, Apart, AllApart}
+use Rattle.order.specs.Witness.{begun, between, Witness}
+use Rattle.order.proofs.Tests.{clash, not-passed, and-left, and-right, and-both}
+
+-- The one word that a call may write, and the one that it may load.
+abbrev writePlace : Adapter → ℕ
+writePlace a = place (a .vram) (a .side .host .vram .wraddr .0)
+
+abbrev loadPlace : Adapter → Call → ℕ
+loadPlace a (write r odd b) = place (a .vram) (wordOf (getD (a .side .host .latches) 7 0) b)
+loadPlace a (read r odd) = place (a .vram) (wrap (a .side .host .vram .rdaddr .0) (a .side .host .vram .rdincr))
+loadPlace a tick = 0
+loadPlace a frameEnd = 0
+loadPlace a line = 0
+
+write-place : (a : Adapter) (c : Call) (w : ℕ) → callWrites a c w ≡ true → writePlace a ≡ w
+unfolding callWrites
+write-place a (write r odd b) w h = eqb-true (writePlace a) w (and-right (odd && (eqb r 10 || eqb r 11) && accepted a (call (write r odd b)) && not (eqb (a .side .host .vram .nibbles) 0)) (eqb (writePlace a) w) h)
+write-place a (read r odd) w h = absurd (clash h refl)
+write-place a tick w h = absurd (clash h refl)
+write-place a frameEnd w h = absurd (clash h refl)
+write-place a line w h = absurd (clash h refl)
+
+load-place : (a : Adapter) (c : Call) (w : ℕ) → callLoads a c w ≡ true → loadPlace a c ≡ w
+unfolding callLoads
+load-place a (write r odd b) w h = eqb-true (loadPlace a (write r odd b)) w (and-right (odd && eqb r 7 && accepted a (call (write r odd b))) (eqb (loadPlace a (write r odd b)) w) h)
+load-place a (read r odd) w h = eqb-true (loadPlace a (read r odd)) w (and-right (odd && (eqb r 10 || eqb r 11) && accepted a (call (read r odd))) (eqb (loadPlace a (read r odd)) w) h)
+load-place a tick w h = absurd (clash h refl)
+load-place a frameEnd w h = absurd (clash h refl)
+load-place a line w h = absurd (clash h refl)
+
+-- A set of words of which only one can be in the first test: none is in both, if that one is not.
+disjoint-at : (f g : ℕ → Bool) (x : ℕ) → ((w : ℕ) → f w ≡ true → x ≡ w) → f x && g x ≡ false → (w : ℕ) → f w ≡ true → g w ≡ false
+disjoint-at f g x only h w t = not-passed (g w) (λ p. clash (and-both (ap f (only w t) ∙ t) (ap g (only w t) ∙ p)) h)
+
+module _ (reads writes : ℕ → Bool) where
+  apartTest : Adapter → Call → Bool
+  apartTest a c =
+      not (callStarts a c) && not (callWrites a c (writePlace a) && reads (writePlace a))
+      && not (callWrites a c (writePlace a) && writes (writePlace a)) && not (callLoads a c (loadPlace a c) && writes (loadPlace a c))
+
+  allApartTest : Adapter → List Event → Bool
+  allApartTest a [] = true
+  allApartTest a (call c ∷ es) = apartTest a c && allApartTest (after a (call c)) es
+  allApartTest a (step ∷ es) = allApartTest (after a step) es
+  allApartTest a (run n ∷ es) = allApartTest (after a (run n)) es
+
+  apart-tested : (a : Adapter) (c : Call) → apartTest a c ≡ true → Apart reads writes a c
+  unfolding apartTest
+  apart-tested a c h =
+      let starts : Bool = not (callStarts a c) in
+      let read : Bool = not (callWrites a c (writePlace a) && reads (writePlace a)) in
+      let written : Bool = not (callWrites a c (writePlace a) && writes (writePlace a)) in
+      let loaded : Bool = not (callLoads a c (loadPlace a c) && writes (loadPlace a c)) in
+      let front : starts && read && written ≡ true = and-left (starts && read && written) loaded h in
+      let pair : starts && read ≡ true = and-left (starts && read) written front in
+      record {
+        starts-none = not-true (callStarts a c) (and-left starts read pair);
+        writes-none-read = disjoint-at (callWrites a c) reads (writePlace a) (write-place a c) (not-true _ (and-right starts read pair));
+        writes-none-written = disjoint-at (callWrites a c) writes (writePlace a) (write-place a c) (not-true _ (and-right (starts && read) written front));
+        loads-none-written = disjoint-at (callLoads a c) writes (loadPlace a c) (load-place a c) (not-true _ (and-right (starts && read && written) loaded h));
+      }
+
+  all-apart-tested : (es : List Event) (a : Adapter) → allApartTest a es ≡ true → AllApart reads writes a es
+  unfolding allApartTest
+  all-apart-tested [] a h = tt
+  all-apart-tested (call c ∷ es) a h = (
+    apart-tested a c (and-left (apartTest a c) (allApartTest (after a (call c)) es) h),
+    all-apart-tested es (after a (call c)) (and-right (apartTest a c) (allApartTest (after a (call c)) es) h),
+  )
+  all-apart-tested (step ∷ es) a h = all-apart-tested es (after a step) h
+  all-apart-tested (run n ∷ es) a h = all-apart-tested es (after a (run n)) h
+
+-- Every test passes by computation.
+pub witness : Witness
+unfolding apartTest allApartTest callWrites callLoads callStarts accepted stepsIn blitReads blitWrites readsNow writesNow wordsOf wrap bit nibble chosen merged shifted combined isColour colourMask isVramLength isXrLength place word stored changed within isBlitRegister playfieldRead registerRead xrRead put videoWrite blitWrite xrMemoryWrite xrWrite wordOf latched xrLoaded vramLoad writeWord writeByte shown highByte lowByte timerSaved readByte expires counted ticked TimerTick.tick TimerTick.frameEnd launched isConstant fetched sourced firstMask lastWord lastMask testMask writeMask drawing drawn lastStep nextSource nextDest nextKept next succeeding stepped steps blitWords engineLeft wordsLeft timerInRange hostInRange runningInRange isNoRegs idleInRange engineInRange inRange badVram badXr badState badRegister blitterFull reconfigures applying lowest refusal actOf vramLoaded startedEngine perform done after lineUp given answer afterAll
+witness = record {
+  starts = record { accepted = refl; words = refl; idle = refl };
+  enough = lit≤ tt;
+  apart = all-apart-tested (blitReads (wordsOf begun) begun) (blitWrites (wordsOf begun) begun) between begun refl;
+  drawn = refl;
+  stored = refl;
+  read-back = refl;
+}
