@@ -1,8 +1,8 @@
 -- Demand 3: the order of blit steps and host accesses does not matter.
 pub mod Tests
 pub mod Stores
-pub mod StoreAcross
 pub mod Footprint
+pub mod StoreAcross
 pub mod Acts
 pub mod Fit
 pub mod Status
