@@ -1,6 +1,6 @@
 -- What a call asks for is what the paper's words say of it: which word it writes, which it loads, whether it starts a blit.
 use mathlib.Core.Path.{_≡_, refl, sym, ap, _∙_}
-use mathlib.Core.Bool.{Bool, true, false, not, _||_}
+use mathlib.Core.Bool.{and-eq-true-iff, Bool, true, false, _||_}
 use mathlib.Core.List.{List, [], _∷_}
 use Prim.Native.Nat.{ℕ, zero, suc}
 use lib.Dec.{eqb}
@@ -19,7 +19,7 @@ use Rattle.xosera.specs.Calls.{actOf}
 use Rattle.xosera.specs.Order.{accepted, callWrites, callLoads, callStarts}
 use Rattle.xosera.proofs.Branches.{cond-no, cond-either, cond-cases}
 use Rattle.order.specs.Work.{callTries}
-use Rattle.order.proofs.Tests.{clash, not-passed, and-left, and-right, and-both}
+use Rattle.order.proofs.Tests.{clash, not-passed, and-both}
 use Rattle.order.proofs.Stores.{touches}
 
 -- What the paper says of a call, for what the call asks.
@@ -107,11 +107,9 @@ module _ (a : Adapter) (b : ℕ) where
   data-worded : (r : ℕ) → eqb r 10 || eqb r 11 ≡ true → OddWrite r writeData
   unfolding OddWrite callWrites touches
   data-worded r port ok =
-      let some : Bool = not (eqb (a .side .host .vram .nibbles) 0) in
-      let here : ℕ → Bool = λ w. eqb (place (a .vram) (a .side .host .vram .wraddr .0)) w in
       record {
         starts = λ h. absurd (clash h refl);
-        writes = λ w h. and-both (and-both (and-both port ok) (and-left some (here w) h)) (and-right some (here w) h);
+        writes = λ w h. let k = simp and-eq-true-iff at h in and-both (and-both (and-both port ok) (k .0)) (k .1);
         loads = λ h. absurd (clash h refl);
         waits = λ t q. refl;
       }

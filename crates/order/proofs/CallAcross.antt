@@ -32,7 +32,8 @@ left-cases false r s h = refl
 beside-left : (k : Store) (a b : Adapter) → Beside k a b → wordsLeft b ≡ wordsLeft a
 unfolding wordsLeft
 beside-left k a b h =
-    let w : cond (a .queued) (blitWords (b .side .blit)) 0 ≡ cond (a .queued) (blitWords (a .side .blit)) 0 = left-cases (a .queued) (a .side .blit) (b .side .blit) (h .waiting) in
+    let waiting : cond (a .queued) (blitWords (b .side .blit)) 0 ≡ cond (a .queued) (blitWords (a .side .blit)) 0 =
+    left-cases (a .queued) (a .side .blit) (b .side .blit) (h .waiting) in
     cc (h .engine, h .queued)
 
 -- The address that an act leaves in 7.
@@ -92,11 +93,13 @@ module _ (p : Act) (a : Adapter) (aside : Aside p a) where
     unfolding perform
     side-alike = go (p .load) refl
       where
-        go : (b : Bool) → p .load ≡ b → cond b (vramLoaded (p .side) (perform p r .vram)) (p .side) ≡ cond b (vramLoaded (p .side) (perform p a .vram)) (p .side)
+        go : (b : Bool) → p .load ≡ b →
+            cond b (vramLoaded (p .side) (perform p r .vram)) (p .side) ≡ cond b (vramLoaded (p .side) (perform p a .vram)) (p .side)
         go true load = loaded-alike load
         go false none = refl
 
-performed-finishes : {full : Bool} (p : Act) (a r : Adapter) → Aside p a → Finishes full a r → Fit (perform p a) → Fit (perform p r) → Finishes full (perform p a) (perform p r)
+performed-finishes : {full : Bool} (p : Act) (a r : Adapter) → Aside p a → Finishes full a r → Fit (perform p a) → Fit (perform p r) →
+    Finishes full (perform p a) (perform p r)
 unfolding perform
 performed-finishes p a r aside f fit fit-ref = record {
   fit = fit;
@@ -117,7 +120,8 @@ after-refused : (a : Adapter) (c : Call) → accepted a (call c) ≡ false → a
 unfolding accepted after done
 after-refused a c nope = cond-no _ a nope
 
-module _ {full : Bool} {reads writes : ℕ → Bool} {n : ℕ} (a r : Adapter) (c : Call) (course : OnCourse full reads writes n a r) (apart : Apart reads writes a c) (patient : callTries a c ≡ false) where
+module _ {full : Bool} {reads writes : ℕ → Bool} {n : ℕ} (a r : Adapter) (c : Call) (course : OnCourse full reads writes n a r)
+    (apart : Apart reads writes a c) (patient : callTries a c ≡ false) where
   f : Finishes full a r
   f = course .finishes
 
@@ -145,12 +149,18 @@ module _ {full : Bool} {reads writes : ℕ → Bool} {n : ℕ} (a r : Adapter) (
         waits = says .waits patient;
       }
 
+  performed-fit : accepted a (call c) ≡ true → Fit (perform (actOf (a .side) c) a)
+  performed-fit ok = subst Fit (after-accepted a c ok) (fit-after a (call c) (f .fit))
+
+  reference-fit : accepted a (call c) ≡ true → Fit (perform (actOf (a .side) c) r)
+  reference-fit ok = subst Fit (after-reference ok) (fit-after r (call c) (f .fit-ref))
+
   performed-on-course : accepted a (call c) ≡ true → OnCourse full reads writes n (perform (actOf (a .side) c) a) (perform (actOf (a .side) c) r)
   performed-on-course ok =
       let p : Act = actOf (a .side) c in
       let aside : Aside p a = call-aside ok in
       record {
-        finishes = performed-finishes p a r aside f (subst Fit (after-accepted a c ok) (fit-after a (call c) (f .fit))) (subst Fit (after-reference ok) (fit-after r (call c) (f .fit-ref)));
+        finishes = performed-finishes p a r aside f (performed-fit ok) (reference-fit ok);
         within = record {
           unread = λ w h. rw (performed-left p a aside) (performed-words p a aside .reads w ∙ course .within .unread w h);
           unwritten = λ w h. rw (performed-left p a aside) (performed-words p a aside .writes w ∙ course .within .unwritten w h);

@@ -10,7 +10,7 @@ use Rattle.xosera.specs.Order.{writesNow, blitWrites}
 use Rattle.xosera.proofs.Branches.{cond-yes}
 use Rattle.xosera.proofs.StepCases.{stepped-idle}
 use Rattle.xosera.proofs.RangeLaws.{stepped-vram-length}
-use Rattle.order.proofs.Tests.{or-left, or-right}
+use Rattle.order.proofs.Tests.{or-eq-false-iff}
 use Rattle.order.proofs.Stores.{touches, stored-word}
 
 -- A step of a running engine, part by part.
@@ -52,7 +52,5 @@ pub unwritten-stays : (n : ℕ) (a : Adapter) (x : ℕ) → blitWrites n a (plac
 unfolding steps blitWrites
 unwritten-stays zero a x h = refl
 unwritten-stays (suc n) a x h =
-    let now : Bool = writesNow a (place (a .vram) x) in
-    let later : Bool = blitWrites n (stepped a) (place (a .vram) x) in
-    unwritten-stays n (stepped a) x (ap (blitWrites n (stepped a)) (place-stepped a x) ∙ or-right now later h)
-    ∙ word-stepped a x (or-left now later h)
+    let k = simp or-eq-false-iff at h in
+    unwritten-stays n (stepped a) x (rw (place-stepped a x) (k .1)) ∙ word-stepped a x (k .0)

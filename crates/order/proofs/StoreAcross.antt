@@ -14,7 +14,7 @@ use Rattle.xosera.specs.declared.Engine.{Engine}
 use Rattle.xosera.specs.declared.BlitRegs.{BlitRegs}
 use Rattle.xosera.proofs.StepCases.{stepped-idle}
 use Rattle.xosera.proofs.RangeLaws.{stepped-side}
-use Rattle.order.proofs.Tests.{clash, not-passed, and-both, or-left, or-right}
+use Rattle.order.proofs.Tests.{clash, not-passed, and-both, or-eq-false-iff}
 use Rattle.order.proofs.Footprint.{stepped-engine, stepped-queued, stepped-vram, writes-running, place-stepped}
 use Rattle.order.proofs.Stores.{touches, stored-place, stored-word, stored-swap, Separate}
 
@@ -124,8 +124,8 @@ pub record Clear (n : ℕ) (k : Store) (a : Adapter) : Type 0 where
 clear-now : (n : ℕ) (k : Store) (a : Adapter) → Clear (suc n) k a → Free k a
 unfolding blitReads blitWrites
 clear-now n k a clear = record {
-  unread = λ w t. or-left (readsNow a w) (blitReads n (stepped a) w) (clear .unread w t);
-  unwritten = λ w t. or-left (writesNow a w) (blitWrites n (stepped a) w) (clear .unwritten w t);
+  unread = λ w t. (simp or-eq-false-iff at (clear .unread w t)) .0;
+  unwritten = λ w t. (simp or-eq-false-iff at (clear .unwritten w t)) .0;
 }
 
 touches-stepped : (k : Store) (a : Adapter) (w : ℕ) → touches k (stepped a .vram) w ≡ touches k (a .vram) w
@@ -135,8 +135,8 @@ touches-stepped k a w = rw (place-stepped a (k .addr))
 clear-later : (n : ℕ) (k : Store) (a : Adapter) → Clear (suc n) k a → Clear n k (stepped a)
 unfolding blitReads blitWrites
 clear-later n k a clear = record {
-  unread = λ w t. or-right (readsNow a w) (blitReads n (stepped a) w) (clear .unread w (sym (touches-stepped k a w) ∙ t));
-  unwritten = λ w t. or-right (writesNow a w) (blitWrites n (stepped a) w) (clear .unwritten w (sym (touches-stepped k a w) ∙ t));
+  unread = λ w t. (simp or-eq-false-iff at (clear .unread w (sym (touches-stepped k a w) ∙ t))) .1;
+  unwritten = λ w t. (simp or-eq-false-iff at (clear .unwritten w (sym (touches-stepped k a w) ∙ t))) .1;
 }
 
 -- n steps keep a store beside the blit.

@@ -27,7 +27,8 @@ pub stored-none : (k : Store) (v : List ℕ) → eqb (k .mask) 0 ≡ true → st
 unfolding stored
 stored-none k v e = rw e
 
-pub stored-some : (k : Store) (v : List ℕ) → eqb (k .mask) 0 ≡ false → stored k v ≡ set v (place v (k .addr)) (merged (k .mask) (word v (k .addr)) (k .value))
+pub stored-some : (k : Store) (v : List ℕ) → eqb (k .mask) 0 ≡ false →
+    stored k v ≡ set v (place v (k .addr)) (merged (k .mask) (word v (k .addr)) (k .value))
 unfolding stored
 stored-some k v e = rw e
 

@@ -1,10 +1,10 @@
 -- The witness meets demand 3's conditions: a test over the whole list, which antt computes, and lemmas that turn the test into the
 -- conditions.
 use mathlib.Core.Path.{_≡_, refl, ap, _∙_}
-use mathlib.Core.Bool.{Bool, true, false, not, _&&_, _||_}
+use mathlib.Core.Bool.{and-eq-true-iff, Bool, true, false, not, _&&_}
 use mathlib.Core.List.{List, [], _∷_}
 use Prim.Native.Nat.{ℕ}
-use lib.Dec.{eqb, lit≤}
+use lib.Dec.{lit≤}
 use lib.ListN.{getD}
 use borrow.Author.Tests.{eqb-true, not-true}
 use Rattle.xosera.specs.Words.{wrap, bit, nibble, chosen, merged, shifted, combined, isColour, colourMask}
@@ -20,7 +20,7 @@ use Rattle.xosera.specs.Refusals.{timerInRange, hostInRange, runningInRange, is
 use Rattle.xosera.specs.Calls.{actOf, vramLoaded, startedEngine, perform, done, after, lineUp, given, answer}
 use Rattle.xosera.specs.Order.{wordsOf, stepsIn, afterAll, readsNow, writesNow, blitReads, blitWrites, accepted, callWrites, callLoads, callStarts, Apart, AllApart}
 use Rattle.order.specs.Witness.{begun, between, Witness}
-use Rattle.order.proofs.Tests.{clash, not-passed, and-left, and-right, and-both}
+use Rattle.order.proofs.Tests.{clash, not-passed, and-both}
 
 -- The one word that a call may write, and the one that it may load.
 abbrev writePlace : Adapter → ℕ
@@ -35,7 +35,7 @@ loadPlace a line = 0
 
 write-place : (a : Adapter) (c : Call) (w : ℕ) → callWrites a c w ≡ true → writePlace a ≡ w
 unfolding callWrites
-write-place a (write r odd b) w h = eqb-true (writePlace a) w (and-right (odd && (eqb r 10 || eqb r 11) && accepted a (call (write r odd b)) && not (eqb (a .side .host .vram .nibbles) 0)) (eqb (writePlace a) w) h)
+write-place a (write r odd b) w h = eqb-true (writePlace a) w ((simp and-eq-true-iff at h) .1)
 write-place a (read r odd) w h = absurd (clash h refl)
 write-place a tick w h = absurd (clash h refl)
 write-place a frameEnd w h = absurd (clash h refl)
@@ -43,8 +43,8 @@ write-place a line w h = absurd (clash h refl)
 
 load-place : (a : Adapter) (c : Call) (w : ℕ) → callLoads a c w ≡ true → loadPlace a c ≡ w
 unfolding callLoads
-load-place a (write r odd b) w h = eqb-true (loadPlace a (write r odd b)) w (and-right (odd && eqb r 7 && accepted a (call (write r odd b))) (eqb (loadPlace a (write r odd b)) w) h)
-load-place a (read r odd) w h = eqb-true (loadPlace a (read r odd)) w (and-right (odd && (eqb r 10 || eqb r 11) && accepted a (call (read r odd))) (eqb (loadPlace a (read r odd)) w) h)
+load-place a (write r odd b) w h = eqb-true (loadPlace a (write r odd b)) w ((simp and-eq-true-iff at h) .1)
+load-place a (read r odd) w h = eqb-true (loadPlace a (read r odd)) w ((simp and-eq-true-iff at h) .1)
 load-place a tick w h = absurd (clash h refl)
 load-place a frameEnd w h = absurd (clash h refl)
 load-place a line w h = absurd (clash h refl)
@@ -68,26 +68,20 @@ module _ (reads writes : ℕ → Bool) where
   apart-tested : (a : Adapter) (c : Call) → apartTest a c ≡ true → Apart reads writes a c
   unfolding apartTest
   apart-tested a c h =
-      let starts : Bool = not (callStarts a c) in
-      let read : Bool = not (callWrites a c (writePlace a) && reads (writePlace a)) in
-      let written : Bool = not (callWrites a c (writePlace a) && writes (writePlace a)) in
-      let loaded : Bool = not (callLoads a c (loadPlace a c) && writes (loadPlace a c)) in
-      let front : starts && read && written ≡ true = and-left (starts && read && written) loaded h in
-      let pair : starts && read ≡ true = and-left (starts && read) written front in
+      let k = simp and-eq-true-iff at h in
       record {
-        starts-none = not-true (callStarts a c) (and-left starts read pair);
-        writes-none-read = disjoint-at (callWrites a c) reads (writePlace a) (write-place a c) (not-true _ (and-right starts read pair));
-        writes-none-written = disjoint-at (callWrites a c) writes (writePlace a) (write-place a c) (not-true _ (and-right (starts && read) written front));
-        loads-none-written = disjoint-at (callLoads a c) writes (loadPlace a c) (load-place a c) (not-true _ (and-right (starts && read && written) loaded h));
+        starts-none = not-true (callStarts a c) (k .0 .0 .0);
+        writes-none-read = disjoint-at (callWrites a c) reads (writePlace a) (write-place a c) (not-true _ (k .0 .0 .1));
+        writes-none-written = disjoint-at (callWrites a c) writes (writePlace a) (write-place a c) (not-true _ (k .0 .1));
+        loads-none-written = disjoint-at (callLoads a c) writes (loadPlace a c) (load-place a c) (not-true _ (k .1));
       }
 
   all-apart-tested : (es : List Event) (a : Adapter) → allApartTest a es ≡ true → AllApart reads writes a es
   unfolding allApartTest
   all-apart-tested [] a h = tt
-  all-apart-tested (call c ∷ es) a h = (
-    apart-tested a c (and-left (apartTest a c) (allApartTest (after a (call c)) es) h),
-    all-apart-tested es (after a (call c)) (and-right (apartTest a c) (allApartTest (after a (call c)) es) h),
-  )
+  all-apart-tested (call c ∷ es) a h =
+      let k = simp and-eq-true-iff at h in
+      (apart-tested a c (k .0), all-apart-tested es (after a (call c)) (k .1))
   all-apart-tested (step ∷ es) a h = all-apart-tested es (after a step) h
   all-apart-tested (run n ∷ es) a h = all-apart-tested es (after a (run n)) h
 
