@@ -29,15 +29,16 @@ module _ {ℓ} {A : Type ℓ} where
   cond-same true x = refl
   cond-same false x = refl
 
-  -- What holds of each entry of a table, and of the value outside it, holds wherever one looks.
-  abbrev pub Every : (A → Type 0) → List A → Type 0
-  Every P [] = Unit {0}
-  Every P (x ∷ xs) = P x × Every P xs
+-- What holds of each entry of a table, and of the value outside it, holds wherever one looks.
+infixr 20 _also_
+pub data Every {A : Type 0} (P : A → Type 0) : List A → Type 0 where
+  none : Every P []
+  _also_ : {x : A} {xs : List A} → P x → Every P xs → Every P (x ∷ xs)
 
-  pub getD-every : (P : A → Type 0) (l : List A) (i : ℕ) (d : A) → Every P l → P d → P (getD l i d)
-  getD-every P [] i d all else = else
-  getD-every P (x ∷ xs) zero d all else = all .0
-  getD-every P (x ∷ xs) (suc i) d all else = getD-every P xs i d (all .1) else
+pub getD-every : {A : Type 0} (P : A → Type 0) {l : List A} (i : ℕ) (d : A) → Every P l → P d → P (getD l i d)
+getD-every P i d none else = else
+getD-every P zero d (h also hs) else = h
+getD-every P (suc i) d (h also hs) else = getD-every P i d hs else
 
 pub length-cond {ℓ} : {A : Type ℓ} (b : Bool) (x y : List A) → length (cond b x y) ≡ cond b (length x) (length y)
 length-cond true x y = refl

@@ -5,16 +5,15 @@ use mathlib.Core.List.{List}
 use Prim.Native.Nat.{ℕ, suc, _+_, _*_, _-_, _≤_, _<_}
 use native.Mathlib.Omega.{arith}
 use native.Mathlib.Nat.{sub-self, sub-zero, zero-mul}
-use lib.Dec.{eqb}
-use lib.ListN.{length, set, length-set}
+use lib.ListN.{length, length-set}
 use borrow.Author.Tests.{eqb-true, eqb-false}
 use Rattle.xosera.specs.declared.BlitRegs.{BlitRegs}
 use Rattle.xosera.specs.declared.Engine.{Engine}
-use Rattle.xosera.specs.Memories.{Store, stored, place, word}
-use Rattle.xosera.specs.Words.{merged}
+use Rattle.xosera.specs.Memories.{Store, stored, word}
 use Rattle.xosera.specs.Blitter.{noRegs, idle, launched, lastWord, lastStep, nextKept, next, drawing, drawn, succeeding, blitWords, engineLeft}
 use Rattle.xosera.specs.Refusals.{runningInRange, isNoRegs, idleInRange, engineInRange}
-use Rattle.xosera.proofs.Branches.{cond-yes, cond-no, cond-either, parts}
+use Rattle.xosera.proofs.Branches.{cond-yes, cond-no, parts}
+use Rattle.xosera.proofs.MaskLaws.{stored-either}
 
 -- What the range says of a running engine.
 pub record Running (e : Engine) : Type 0 where
@@ -136,10 +135,7 @@ succeeding-left false r = refl
 
 -- What is drawn keeps its length.
 pub stored-length : (s : Store) (v : List ℕ) → length (stored s v) ≡ length v
-unfolding stored
-stored-length s v =
-    cond-either (λ (l : List ℕ). length l ≡ length v) (eqb (s .mask) 0) v (set v (place v (s .addr)) (merged (s .mask) (word v (s .addr)) (s .value)))
-    refl (length-set v _ _)
+stored-length s v = stored-either (λ (l : List ℕ). length l ≡ length v) s v refl (length-set v _ _)
 
 pub drawn-length : (e : Engine) (v : List ℕ) → length (drawn e v) ≡ length v
 unfolding drawn

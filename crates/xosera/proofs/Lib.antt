@@ -1,6 +1,7 @@
 -- What is proved of the definitions: the bench table, and the laws that the layers above cite.
 pub mod BenchTable
 pub mod Branches
+pub mod MaskLaws
 pub mod EngineLaws
 pub mod StepCases
 pub mod RangeLaws

@@ -1,7 +1,6 @@
 -- Every event keeps the state in its ranges and both memories at their lengths.
 use mathlib.Core.Path.{_≡_, refl, sym, _∙_, ap}
 use mathlib.Core.Bool.{Bool, true, false, cond, _&&_, _||_, false≢true}
-use mathlib.Core.List.{[], _∷_}
 use Prim.Native.Nat.{ℕ, zero, suc, _-_, _≤_, _<_}
 use native.Mathlib.Omega.{arith}
 use lib.Bits.{bitOr, or-lt, and-le-l}
@@ -13,14 +12,14 @@ use Rattle.xosera.specs.declared.BlitRegs.{BlitRegs}
 use Rattle.xosera.specs.declared.Engine.{Engine}
 use Rattle.xosera.specs.Adapter.{Side, Adapter, Act, StatusChange, kept, raised, cleared, changed, stateOf, withTimer}
 use Rattle.xosera.specs.XrSpace.{within, xrMemoryWrite, xrWrite}
-use Rattle.xosera.specs.HostBytes.{latched, xrLoaded, vramLoad, writeWord, writeByte, timerSaved, readByte, writeSysCtrl, writeIntCtrl, writeTimer, writeRdXaddr, writeWrXaddr, writeXdata, writeRdIncr, writeRdAddr, writeWrIncr, writeWrAddr, writeData, writeNothing}
+use Rattle.xosera.specs.HostBytes.{latched, xrLoaded, vramLoad, writeWord, writeByte, timerSaved, readByte, writeSysCtrl, writeIntCtrl, writeTimer, writeNothing, writes}
 use Rattle.xosera.specs.TimerTick as TimerTick
 use Rattle.xosera.specs.TimerTick.{expires, counted, ticked}
 use Rattle.xosera.specs.Blitter.{idle, launched, next, succeeding, stepped, steps}
 use Rattle.xosera.specs.Events.{Call, Event, write, read, tick, frameEnd, line, call, step, run}
 use Rattle.xosera.specs.Refusals.{timerInRange, hostInRange, idleInRange, isNoRegs, engineInRange, inRange, refusal}
 use Rattle.xosera.specs.Calls.{actOf, vramLoaded, startedEngine, perform, done, after}
-use Rattle.xosera.proofs.Branches.{cond-either, getD-every, cond-same, length-cond, parts}
+use Rattle.xosera.proofs.Branches.{cond-either, Every, none, _also_, getD-every, cond-same, length-cond, parts}
 use Rattle.xosera.proofs.StepCases.{step-cases}
 use Rattle.xosera.proofs.EngineLaws.{launched-in-range, next-in-range, stored-length, drawn-length}
 
@@ -185,47 +184,13 @@ module _ (s : Side) where
 
   write-fits : (r w : ℕ) → Fits s (writeWord r s w)
   unfolding writeWord hostInRange vramLoad xrLoaded
-  write-fits r w =
-      getD-every (λ (f : Side → ℕ → Act). Fits s (f s w))
-      (writeSysCtrl ∷ writeIntCtrl ∷ writeTimer ∷ writeRdXaddr ∷ writeWrXaddr ∷ writeXdata
-      ∷ writeRdIncr ∷ writeRdAddr ∷ writeWrIncr ∷ writeWrAddr ∷ writeData ∷ writeData ∷ [])
-      r writeNothing (
-        sys-ctrl-fits w,
-        (
-          int-ctrl-fits w,
-          (
-            timer-write-fits w,
-            (
-              fits _ refl refl refl,
-              (
-                fits _ refl refl refl,
-                (
-                  xr-write-fits _ _ w refl refl,
-                  (
-                    fits _ refl refl refl,
-                    (
-                      fits _ refl refl refl,
-                      (
-                        fits _ refl refl refl,
-                        (
-                          fits _ refl refl refl,
-                          (
-                            fits _ refl refl refl,
-                            (
-                              fits _ refl refl refl,
-                              tt,
-                            ),
-                          ),
-                        ),
-                      ),
-                    ),
-                  ),
-                ),
-              ),
-            ),
-          ),
-        ),
-      ) (fits _ refl refl refl)
+  write-fits r w = getD-every (λ (f : Side → ℕ → Act). Fits s (f s w)) r writeNothing rows (fits _ refl refl refl)
+    where
+      rows : Every (λ (f : Side → ℕ → Act). Fits s (f s w)) writes
+      rows =
+          sys-ctrl-fits w also int-ctrl-fits w also timer-write-fits w also fits _ refl refl refl also fits _ refl refl refl
+          also xr-write-fits _ _ w refl refl also fits _ refl refl refl also fits _ refl refl refl also fits _ refl refl refl
+          also fits _ refl refl refl also fits _ refl refl refl also fits _ refl refl refl also none
 
   write-byte-fits : (r : ℕ) (odd : Bool) (b : ℕ) → Fits s (writeByte s r odd b)
   unfolding writeByte hostInRange latched

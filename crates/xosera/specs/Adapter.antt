@@ -1,10 +1,8 @@
 -- An adapter: the state with both memories, and what an access asks of it.
-use mathlib.Core.Bool.{Bool, true, false}
+use mathlib.Core.Bool.{Bool, false}
 use mathlib.Core.List.{List}
 use Prim.Native.Nat.{ℕ, _-_}
 use lib.Bits.{bitAnd, bitOr}
-use Rattle.xosera.specs.declared.VramAddr.{VramAddr}
-use Rattle.xosera.specs.declared.XrAddr.{XrAddr}
 use Rattle.xosera.specs.declared.Timer.{Timer}
 use Rattle.xosera.specs.declared.XrPort.{XrPort}
 use Rattle.xosera.specs.declared.VramPort.{VramPort}
@@ -51,18 +49,9 @@ stateOf a = record {
   status = a .status;
 }
 
--- A side with one part changed.
+-- A side with another host.
 abbrev pub withHost : Side → Host → Side
 withHost s h = record { host = h; video = s .video; blit = s .blit; xr = s .xr }
-
-abbrev pub withVideo : Side → Video → Side
-withVideo s v = record { host = s .host; video = v; blit = s .blit; xr = s .xr }
-
-abbrev pub withBlit : Side → BlitRegs → Side
-withBlit s b = record { host = s .host; video = s .video; blit = b; xr = s .xr }
-
-abbrev pub withXr : Side → List ℕ → Side
-withXr s xr = record { host = s .host; video = s .video; blit = s .blit; xr = xr }
 
 -- A host with one part changed.
 abbrev pub withTimer : Host → Timer → Host
@@ -80,7 +69,7 @@ withIntMask h m = record { timer = h .timer; xr = h .xr; vram = h .vram; intmask
 abbrev pub withLatches : Host → List ℕ → Host
 withLatches h l = record { timer = h .timer; xr = h .xr; vram = h .vram; intmask = h .intmask; latches = l }
 
--- A port with one part changed.
+-- A port with one part changed; the XR read address moves together with the buffer.
 abbrev pub withRdXaddr : XrPort → ℕ → ℕ → XrPort
 withRdXaddr p a buffer = record { rdxaddr = record { 0 = a }; wrxaddr = p .wrxaddr; buffer = buffer }
 

@@ -27,7 +27,7 @@ blit b =
 abbrev pub bench : List ℕ → Adapter
 bench ws = adapter resetState (replicate 16 0xFFFF ++ ws ++ replicate (240 - length ws) 0xFFFF) (replicate 6656 0)
 
--- n VRAM words from an address on, after some events.
+-- n VRAM words of an adapter, from an address on.
 abbrev pub seen : ℕ → ℕ → Adapter → List ℕ
 seen at n a = take n (drop at (a .vram))
 
@@ -53,41 +53,41 @@ pub record Row : Type 0 where
   pub gives : List ℕ
   pub should : List ℕ
 
--- VRAM at 0x20 after a blit of up to 9 words; source words stand at 0x10.
+-- n VRAM words from 0 on, after a blit of up to 9 words; source words stand at 0x10.
 abbrev pub blitted : List ℕ → ℕ → BlitRegs → List ℕ
-blitted ws n b = seen 0x20 n (afterAll (bench ws) (blit b ++ run 9 ∷ []))
+blitted ws n b = seen 0 n (afterAll (bench ws) (blit b ++ run 9 ∷ []))
 
--- Registers not named are 0, masks F, targets FFFF.
+-- Registers not named are 0, masks F, targets FFFF. CTRL 1 makes a constant; sources need a place that is no target, 0x10.
 abbrev pub table : List Row
 table =
     -- SHIFT 7801, 3 words 1234 5678 9ABC
     record {
-      gives = blitted (0x1234 ∷ 0x5678 ∷ 0x9ABC ∷ []) 3 (record { ctrl = 0; andc = 0; xor = 0; mods = 0; srcs = 0x10; modd = 0; dstd = 0x20; shift = 0x7801; lines = 0; words = 2 });
+      gives = blitted (0x1234 ∷ 0x5678 ∷ 0x9ABC ∷ []) 3 (record { ctrl = 0; andc = 0; xor = 0; mods = 0; srcs = 0x10; modd = 0; dstd = 0; shift = 0x7801; lines = 0; words = 2 });
       should = 0xF123 ∷ 0x4567 ∷ 0x8FFF ∷ [];
     }
     -- constant 0F3C, ANDC 00FF, XOR 1111
     ∷ record {
-      gives = blitted [] 1 (record { ctrl = 1; andc = 0x00FF; xor = 0x1111; mods = 0; srcs = 0x0F3C; modd = 0; dstd = 0x20; shift = 0xFF00; lines = 0; words = 0 });
+      gives = blitted [] 1 (record { ctrl = 1; andc = 0x00FF; xor = 0x1111; mods = 0; srcs = 0x0F3C; modd = 0; dstd = 0; shift = 0xFF00; lines = 0; words = 0 });
       should = 0x1E11 ∷ [];
     }
     -- constant 0B0A, CTRL 0A11
     ∷ record {
-      gives = blitted [] 1 (record { ctrl = 0x0A11; andc = 0; xor = 0; mods = 0; srcs = 0x0B0A; modd = 0; dstd = 0x20; shift = 0xFF00; lines = 0; words = 0 });
+      gives = blitted [] 1 (record { ctrl = 0x0A11; andc = 0; xor = 0; mods = 0; srcs = 0x0B0A; modd = 0; dstd = 0; shift = 0xFF00; lines = 0; words = 0 });
       should = 0xFBFF ∷ [];
     }
     -- same, CTRL 0A31
     ∷ record {
-      gives = blitted [] 1 (record { ctrl = 0x0A31; andc = 0; xor = 0; mods = 0; srcs = 0x0B0A; modd = 0; dstd = 0x20; shift = 0xFF00; lines = 0; words = 0 });
+      gives = blitted [] 1 (record { ctrl = 0x0A31; andc = 0; xor = 0; mods = 0; srcs = 0x0B0A; modd = 0; dstd = 0; shift = 0xFF00; lines = 0; words = 0 });
       should = 0x0BFF ∷ [];
     }
     -- one word, constant 1234, SHIFT 7E00
     ∷ record {
-      gives = blitted [] 1 (record { ctrl = 1; andc = 0; xor = 0; mods = 0; srcs = 0x1234; modd = 0; dstd = 0x20; shift = 0x7E00; lines = 0; words = 0 });
+      gives = blitted [] 1 (record { ctrl = 1; andc = 0; xor = 0; mods = 0; srcs = 0x1234; modd = 0; dstd = 0; shift = 0x7E00; lines = 0; words = 0 });
       should = 0xF23F ∷ [];
     }
     -- constant 7, MOD_S 1, 3 lines of 1
     ∷ record {
-      gives = blitted [] 3 (record { ctrl = 1; andc = 0; xor = 0; mods = 1; srcs = 7; modd = 0; dstd = 0x20; shift = 0xFF00; lines = 2; words = 0 });
+      gives = blitted [] 3 (record { ctrl = 1; andc = 0; xor = 0; mods = 1; srcs = 7; modd = 0; dstd = 0; shift = 0xFF00; lines = 2; words = 0 });
       should = 0x0007 ∷ 0x0008 ∷ 0x0009 ∷ [];
     }
     -- source 0x10 holds A, target 0x11, 3 words
@@ -97,7 +97,7 @@ table =
     }
     -- nibble mask 2, data write 1234
     ∷ record {
-      gives = seen 0x20 1 (afterAll (bench []) (setWord 0 2 ++ setWord 9 0x20 ++ setWord 10 0x1234));
+      gives = seen 0 1 (afterAll (bench []) (setWord 0 2 ++ setWord 10 0x1234));
       should = 0xFF3F ∷ [];
     }
     -- 5 holds BEEF, read address 5, store 0 at 5, read
@@ -122,24 +122,24 @@ table =
       gives = told (afterAll (bench []) (setWord 2 2)) (tickAndClear ++ tickAndClear ++ tickAndClear ++ tickAndClear);
       should = 0 ∷ 0 ∷ 0 ∷ 0 ∷ 32 ∷ 0 ∷ 0 ∷ 0 ∷ 0 ∷ 0 ∷ 32 ∷ 0 ∷ [];
     }
-    -- LINES 8000: one line, here of 3 words
+    -- LINES 8000: one line
     ∷ record {
-      gives = told (afterAll (bench []) (blit (record { ctrl = 1; andc = 0; xor = 0; mods = 0; srcs = 0; modd = 0; dstd = 0x20; shift = 0xFF00; lines = 0x8000; words = 2 }))) (run 9 ∷ []);
-      should = 3 ∷ [];
+      gives = told (afterAll (bench []) (blit (record { ctrl = 0; andc = 0; xor = 0; mods = 0; srcs = 0; modd = 0; dstd = 0; shift = 0xFF00; lines = 0x8000; words = 0 }))) (run 9 ∷ []);
+      should = 1 ∷ [];
     }
     -- 3 words running, 2 queued, run 4: count 4, busy, not full, bit 6
     ∷ record {
       gives =
-          told (afterAll (bench []) (blit (record { ctrl = 1; andc = 0; xor = 0; mods = 0; srcs = 0; modd = 0; dstd = 0x20; shift = 0xFF00; lines = 0; words = 2 }) ++ setXr 0x49 1))
+          told (afterAll (bench []) (blit (record { ctrl = 0; andc = 0; xor = 0; mods = 0; srcs = 0; modd = 0; dstd = 0; shift = 0xFF00; lines = 0; words = 2 }) ++ setXr 0x49 1))
           (run 4 ∷ call (read 0 false) ∷ call (read 1 true) ∷ []);
       should = 4 ∷ 0x20 ∷ 0x40 ∷ [];
     }
     -- queued, then write ANDC: refusal 5, write address as before
     ∷ record {
       gives =
-          refused (afterAll (bench []) (blit (record { ctrl = 1; andc = 0; xor = 0; mods = 0; srcs = 0; modd = 0; dstd = 0x20; shift = 0xFF00; lines = 0; words = 2 }) ++ setXr 0x49 1 ++ setWord 4 0x41))
+          refused (afterAll (bench []) (blit (record { ctrl = 0; andc = 0; xor = 0; mods = 0; srcs = 0; modd = 0; dstd = 0; shift = 0xFF00; lines = 0; words = 0 }) ++ setXr 0x49 0 ++ setWord 4 0x41))
           (setWord 5 0)
-          ++ told (afterAll (bench []) (blit (record { ctrl = 1; andc = 0; xor = 0; mods = 0; srcs = 0; modd = 0; dstd = 0x20; shift = 0xFF00; lines = 0; words = 2 }) ++ setXr 0x49 1 ++ setWord 4 0x41 ++ setWord 5 0)) (readWord 4);
+          ++ told (afterAll (bench []) (blit (record { ctrl = 0; andc = 0; xor = 0; mods = 0; srcs = 0; modd = 0; dstd = 0; shift = 0xFF00; lines = 0; words = 0 }) ++ setXr 0x49 0 ++ setWord 4 0x41 ++ setWord 5 0)) (readWord 4);
       should = 0 ∷ 5 ∷ 0x00 ∷ 0x41 ∷ [];
     }
     ∷ []

@@ -1,5 +1,5 @@
 -- The sixteen main registers, a byte at a time (document 01, "Host bytes").
-use mathlib.Core.Bool.{Bool, true, false, cond, _&&_, _||_}
+use mathlib.Core.Bool.{Bool, true, false, cond, _||_}
 use mathlib.Core.List.{List, [], _∷_}
 use Prim.Native.Nat.{ℕ, _+_, _*_, _/_, _%_}
 use lib.Dec.{eqb}
@@ -99,11 +99,14 @@ writeData s w = record {
 abbrev pub writeNothing : Side → ℕ → Act
 writeNothing s w = quiet s
 
--- What an odd write does, by register.
+-- What an odd write does, by register: 0 to 11, then all others.
+abbrev pub writes : List (Side → ℕ → Act)
+writes =
+    writeSysCtrl ∷ writeIntCtrl ∷ writeTimer ∷ writeRdXaddr ∷ writeWrXaddr ∷ writeXdata
+    ∷ writeRdIncr ∷ writeRdAddr ∷ writeWrIncr ∷ writeWrAddr ∷ writeData ∷ writeData ∷ []
+
 unfoldable pub writeWord : ℕ → Side → ℕ → Act
-writeWord r =
-    getD (writeSysCtrl ∷ writeIntCtrl ∷ writeTimer ∷ writeRdXaddr ∷ writeWrXaddr ∷ writeXdata
-    ∷ writeRdIncr ∷ writeRdAddr ∷ writeWrIncr ∷ writeWrAddr ∷ writeData ∷ writeData ∷ []) r writeNothing
+writeWord r = getD writes r writeNothing
 
 -- A byte write.
 unfoldable pub writeByte : Side → ℕ → Bool → ℕ → Act

@@ -1,4 +1,4 @@
--- Document 01 as definitions, a module for each of its chapters, in an order in which each uses only those before it.
+-- Document 01 as definitions, in an order in which each module uses only those before it.
 pub mod Words
 pub mod Memories
 pub mod Adapter

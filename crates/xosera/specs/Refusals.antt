@@ -1,5 +1,5 @@
 -- What a call can say, and the ranges of the state (document 01, "What a call can say").
-use mathlib.Core.Bool.{Bool, true, false, cond, not, _&&_, _||_}
+use mathlib.Core.Bool.{Bool, false, cond, not, _&&_, _||_}
 use mathlib.Core.List.{List, [], _∷_}
 use Prim.Native.Nat.{ℕ, suc}
 use lib.Dec.{leb, ltb, eqb}
@@ -15,7 +15,7 @@ use Rattle.xosera.specs.Adapter.{Adapter, stateOf}
 use Rattle.xosera.specs.XrSpace.{isBlitRegister}
 use Rattle.xosera.specs.HostBytes.{wordOf}
 use Rattle.xosera.specs.Blitter.{noRegs, idle}
-use Rattle.xosera.specs.Events.{Call, Event, write, read, tick, frameEnd, line, call, step, run}
+use Rattle.xosera.specs.Events.{Event, write, read, tick, frameEnd, line, call, step, run}
 
 -- Countdown 1 to its interval, or both 0.
 unfoldable pub timerInRange : Timer → Bool

@@ -1,5 +1,5 @@
 -- Timer ticks and frame ends (document 01, "Host bytes", last paragraph).
-use mathlib.Core.Bool.{Bool, false, cond, _&&_}
+use mathlib.Core.Bool.{Bool, false, cond}
 use Prim.Native.Nat.{ℕ, _-_}
 use lib.Dec.{eqb}
 use Rattle.xosera.specs.declared.Timer.{Timer}

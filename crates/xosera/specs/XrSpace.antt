@@ -1,5 +1,5 @@
 -- The extended (XR) space (document 01, "The XR space").
-use mathlib.Core.Bool.{Bool, true, false, cond, _&&_}
+use mathlib.Core.Bool.{Bool, false, cond, _&&_}
 use mathlib.Core.List.{List, [], _∷_}
 use Prim.Native.Nat.{ℕ, _+_, _-_}
 use lib.Dec.{leb, ltb, eqb}
@@ -7,7 +7,7 @@ use lib.ListN.{getD, set}
 use Rattle.xosera.specs.declared.Video.{Video}
 use Rattle.xosera.specs.declared.BlitRegs.{BlitRegs}
 use Rattle.xosera.specs.Memories.{noStore}
-use Rattle.xosera.specs.Adapter.{Side, Act, quiet, kept, raised, withVideo, withBlit, withXr}
+use Rattle.xosera.specs.Adapter.{Side, Act, kept, raised}
 
 -- Whether an address is one of the n from `base` on.
 unfoldable pub within : ℕ → ℕ → ℕ → Bool
@@ -75,8 +75,8 @@ xrMemoryWrite xr a w =
     (cond (within 0xC000 1024 a) (set xr (5632 + (a - 0xC000)) w)
     xr))
 
--- A write anywhere in the XR space: 0x03 sets status bit 4, 0x49 starts or queues a blit, all else only stores.
--- The nibble mask does not apply.
+-- A write anywhere in the XR space: a register or memory at the address takes the whole word, the nibble mask does not
+-- apply. 0x03 sets status bit 4, 0x49 also starts or queues a blit.
 unfoldable pub xrWrite : Side → ℕ → ℕ → Act
 xrWrite s a w = record {
   side = record {

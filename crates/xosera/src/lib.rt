@@ -46,7 +46,8 @@ pub struct Host {
     pub latches: [u8; 16],
 }
 
-// The stored registers of the XR space: 0x00 to 0x05, and 0x10 and 0x18 on for the two playfields.
+// The stored registers of the XR space: 0x00 to 0x05 but 0x03, which is not stored, and seven each from
+// 0x10 and 0x18 on for the two playfields.
 #[repr(C)]
 pub struct Video {
     pub vidctrl: u16,
@@ -125,9 +126,10 @@ pub struct StateAnswer {
     pub refusal: u8,
 }
 
-// Whether the interrupt line is up.
+// What the line question answers: whether the interrupt line is up.
 #[repr(C)]
 pub struct LineAnswer {
+    pub state: State,
     pub refusal: u8,
     pub up: bool,
 }
