@@ -11,7 +11,7 @@ use Rattle.xosera.specs.Words.{wrap}
 use Rattle.xosera.specs.Memories.{place, Store, noStore}
 use Rattle.xosera.specs.Adapter.{Side, Adapter, Act}
 use Rattle.xosera.specs.XrSpace.{within, isBlitRegister, put, blitWrite, xrWrite}
-use Rattle.xosera.specs.HostBytes.{wordOf, latched, xrLoaded, vramLoad, writeSysCtrl, writeIntCtrl, writeTimer, writeRdXaddr, writeWrXaddr, writeXdata, writeRdIncr, writeRdAddr, writeWrIncr, writeWrAddr, writeData, writeNothing, writeWord, writeByte, readByte, readData}
+use Rattle.xosera.specs.HostBytes.{wordOf, latched, xrLoaded, vramLoad, writeXdata, writeRdAddr, writeData, writeNothing, writes, writeWord, writeByte, readByte, readData}
 use Rattle.xosera.specs.TimerTick as TimerTick
 use Rattle.xosera.specs.Events.{Call, write, read, tick, frameEnd, line, call}
 use Rattle.xosera.specs.Refusals.{blitterFull}
@@ -117,9 +117,7 @@ module _ (a : Adapter) (b : ℕ) where
   odd-write : (r : ℕ) → OddWrite r (writeWord r)
   unfolding OddWrite writeWord xrLoaded
   odd-write =
-      each OddWrite writeNothing (λ r ok. silent refl)
-      (writeSysCtrl ∷ writeIntCtrl ∷ writeTimer ∷ writeRdXaddr ∷ writeWrXaddr ∷ writeXdata
-      ∷ writeRdIncr ∷ writeRdAddr ∷ writeWrIncr ∷ writeWrAddr ∷ writeData ∷ writeData ∷ [])
+      each OddWrite writeNothing (λ r ok. silent refl) writes
       ((λ ok. silent refl) ▹ (λ ok. silent refl) ▹ (λ ok. silent refl) ▹ (λ ok. silent refl) ▹ (λ ok. silent refl) ▹ xdata-worded
       ▹ (λ ok. silent refl) ▹ rdaddr-worded ▹ (λ ok. silent refl) ▹ (λ ok. silent refl) ▹ data-worded 10 refl ▹ data-worded 11 refl ▹ tt)
 

@@ -12,4 +12,5 @@ pub mod Answers
 pub mod Lists
 pub mod OrderOfWork
 pub mod Demand3
+pub mod ApartTest
 pub mod Witness

@@ -5,10 +5,12 @@ use mathlib.Core.Bool.{true}
 use mathlib.Core.List.{List, [], _∷_, _++_}
 use Prim.Native.Nat.{_≤_}
 use Rattle.xosera.specs.Adapter.{Adapter}
+use Rattle.xosera.specs.Blitter.{wordsLeft}
 use Rattle.xosera.specs.Events.{Event, write, tick, frameEnd, line, call, step, run}
 use Rattle.xosera.specs.Calls.{after}
 use Rattle.xosera.specs.Order.{Starts, startWith, wordsOf, stepsIn, afterAll, blitReads, blitWrites, AllApart}
 use Rattle.xosera.specs.BenchTable.{setWord, setXr, readWord, bench, seen, told}
+use Rattle.order.specs.Work.{Fit, AllPatient}
 
 -- 2 lines of 3 words from 0x10 to 0x20, all registers but WORDS set: the start writes 2 there.
 abbrev pub ready : Adapter
@@ -37,3 +39,15 @@ pub record Witness : Type 0 where
   pub drawn : seen 0x20 6 (afterAll begun between) ≡ 0x1234 ∷ 0x5678 ∷ 0x9ABC ∷ 0xDEF0 ∷ 0x1111 ∷ 0x2222 ∷ []
   pub stored : seen 0x80 1 (afterAll begun between) ≡ 0xBEEF ∷ []
   pub read-back : told (afterAll begun between) (readWord 10) ≡ 0xBE ∷ 0xEF ∷ []
+
+-- The same with a second blit of 2 lines of 2 words, to 0x40, queued behind the first.
+abbrev pub queuedUp : Adapter
+queuedUp = afterAll begun (setXr 0x46 0x40 ++ setXr 0x49 1)
+
+pub record QueuedWitness : Type 0 where
+  pub fit : Fit queuedUp
+  pub full : queuedUp .queued ≡ true
+  pub enough : wordsLeft queuedUp ≤ stepsIn between
+  pub apart : AllApart (blitReads (wordsLeft queuedUp) queuedUp) (blitWrites (wordsLeft queuedUp) queuedUp) queuedUp between
+  pub patient : AllPatient queuedUp between
+  pub drawn : seen 0x40 4 (afterAll queuedUp between) ≡ 0x1234 ∷ 0x5678 ∷ 0x9ABC ∷ 0xDEF0 ∷ []
