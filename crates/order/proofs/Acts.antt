@@ -1,6 +1,6 @@
 -- What a call asks for is what the paper's words say of it: which word it writes, which it loads, whether it starts a blit.
 use mathlib.Core.Path.{_≡_, refl, sym, ap, _∙_}
-use mathlib.Core.Bool.{and-eq-true-iff, Bool, true, false, _||_}
+use mathlib.Core.Bool.{Bool, true, false, _||_, and-eq-true-iff}
 use mathlib.Core.List.{List, [], _∷_}
 use Prim.Native.Nat.{ℕ, zero, suc}
 use lib.Dec.{eqb}

@@ -1,7 +1,7 @@
 -- On an adapter to which refusals 1 to 3 do not apply, steps and runs are done, a call's refusal depends on the host's side
 -- alone, and what every event leaves is again such an adapter.
 use mathlib.Core.Path.{_≡_, refl, ap, subst, _∙_}
-use mathlib.Core.Bool.{and-eq-true-iff, true, false, not}
+use mathlib.Core.Bool.{true, false, not, and-eq-true-iff}
 use Prim.Native.Nat.{ℕ, zero, suc, _≤_}
 use borrow.Author.Tests.{not-false}
 use Rattle.xosera.specs.Memories.{isVramLength, isXrLength}
