@@ -1,0 +1,2 @@
+-- What the functions that carry out an access mean.
+pub mod Performs
