@@ -23,13 +23,23 @@ sourcedFrom e raw = cond (isConstant e) (e .regs .srcs) (shifted (e .regs .shift
 -- The engine after a word that is not the blit's last, from the word taken.
 unfoldable pub advanced : Engine → ℕ → Engine
 advanced e raw = record {
-    running = true;
-    line = cond (lastWord e) (e .line + 1) (e .line);
-    word = cond (lastWord e) 0 (e .word + 1);
-    kept = cond (lastWord e) 0 raw;
-    regs = record {
-        ctrl = e .regs .ctrl; andc = e .regs .andc; xor = e .regs .xor; mods = e .regs .mods; srcs = nextSource e;
-        modd = e .regs .modd; dstd = nextDest e; shift = e .regs .shift; lines = e .regs .lines; words = e .regs .words } }
+  running = true;
+  line = cond (lastWord e) (e .line + 1) (e .line);
+  word = cond (lastWord e) 0 (e .word + 1);
+  kept = cond (lastWord e) 0 raw;
+  regs = record {
+    ctrl = e .regs .ctrl;
+    andc = e .regs .andc;
+    xor = e .regs .xor;
+    mods = e .regs .mods;
+    srcs = nextSource e;
+    modd = e .regs .modd;
+    dstd = nextDest e;
+    shift = e .regs .shift;
+    lines = e .regs .lines;
+    words = e .regs .words;
+  };
+}
 
 -- An engine in the middle of a blit, within its ranges.
 pub record Running (e : Engine) : Type 0 where
@@ -43,8 +53,12 @@ moved a e vram = record { side = a .side; status = a .status; queued = a .queued
 -- An adapter whose blit has just ended on this VRAM.
 abbrev pub ended : Adapter → List ℕ → Adapter
 ended a vram = record {
-    side = a .side; status = bitOr (a .status) 64; queued = false;
-    engine = succeeding (a .queued) (a .side .blit); vram = vram }
+  side = a .side;
+  status = bitOr (a .status) 64;
+  queued = false;
+  engine = succeeding (a .queued) (a .side .blit);
+  vram = vram;
+}
 
 -- Of n steps from engine e and VRAM v all but `left` are done, and the blit still goes on from f and u.
 pub record Going (e : Engine) (v : List ℕ) (n : ℕ) (f : Engine) (u : List ℕ) (left : ℕ) : Type 0 where

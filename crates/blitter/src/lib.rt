@@ -2,12 +2,12 @@
 use xosera::BlitRegs;
 use xosera::Engine;
 use xosera::VramAddr;
-
 ghost use mathlib.Core.Path.{_≡_};
 ghost use mathlib.Core.Bool.{true, false, cond};
 ghost use Prim.Native.Nat.{_+_};
 ghost use lib.Bits.{bitAnd};
 ghost use lib.ListN.{length};
+ghost use Rattle.xosera.specs.Words.{wrap};
 ghost use Rattle.xosera.specs.Memories.{isVramLength};
 ghost use Rattle.xosera.specs.Blitter.{noRegs, idle, launched, isConstant, sourced, lastWord, firstMask, lastMask, testMask, writeMask, drawn, lastStep, nextSource, nextDest};
 ghost use Rattle.blitter.specs.Progress.{rawWord, sourcedFrom, advanced, Running, Going, RanTo};
@@ -85,7 +85,11 @@ fn first_mask(e: Engine) -> u16
 fn last_mask(e: Engine) -> u16
     ensures { λ r. ⌜ r ≡ lastMask e ⌝ }
 {
-    if last_word(e) { e.regs.shift / 256 % 16 } else { 15 }
+    if last_word(e) {
+        e.regs.shift / 256 % 16
+    } else {
+        15
+    }
 }
 
 // The colour test, if it is asked for.
@@ -144,15 +148,22 @@ pub fn draw(e: Engine, vram: &mut [u16]) -> u16
     raw
 }
 
+// The source goes up by 1 unless it is a constant.
+fn source_up(e: Engine) -> u16
+    ensures { λ r. ⌜ r ≡ cond (isConstant e) (e .regs .srcs) (wrap (e .regs .srcs) 1) ⌝ }
+{
+    if is_constant(e) {
+        return e.regs.srcs;
+    }
+    std::num::wrapping_add_u16(e.regs.srcs, 1)
+}
+
 fn next_source(e: Engine) -> u16
     ensures { λ r. ⌜ r ≡ nextSource e ⌝ }
 {
-    let mut src = e.regs.srcs;
-    if !is_constant(e) {
-        src = std::num::wrapping_add_u16(src, 1);
-    }
+    let src = source_up(e);
     if last_word(e) {
-        src = std::num::wrapping_add_u16(src, e.regs.mods);
+        return std::num::wrapping_add_u16(src, e.regs.mods);
     }
     src
 }

@@ -15,6 +15,11 @@ module _ {ℓ} {A : Type ℓ} where
   pub cond-no : {b : Bool} (x y : A) → b ≡ false → cond b x y ≡ y
   cond-no x y h = rw h
 
+  -- What follows from the test for the one choice and from its failing for the other holds of the chosen one.
+  pub cond-cases : (P : A → Type 0) (b : Bool) (x y : A) → (b ≡ true → P x) → (b ≡ false → P y) → P (cond b x y)
+  cond-cases P true x y p q = p refl
+  cond-cases P false x y p q = q refl
+
   -- What holds of both choices holds of the chosen one.
   pub cond-either : (P : A → Type 0) (b : Bool) (x y : A) → P x → P y → P (cond b x y)
   cond-either P true x y p q = p

@@ -1,39 +1,34 @@
+-- The counts have room, since the word is not the blit's last.
+use mathlib.Core.Path.{sym, _∙_}
+use native.Mathlib.Omega.{arith}
+use Rattle.blitter.specs.Progress.{advanced}
+use Rattle.blitter.proofs.Words.{word-room, line-room}
 use borrow.Author.Needs.{needs}
 use Rattle.blitter.proofs.advance.Statement.{statement}
 use Rattle.blitter.proofs.advance.Tie as tie
-use Rattle.blitter.proofs.advance.Reads as reads
-use Rattle.blitter.proofs.advance.Lts as lts
-use Rattle.blitter.proofs.last_word.Reads as last-word-reads
-use Rattle.blitter.proofs.next_dest.Reads as next-dest-reads
-use Rattle.blitter.proofs.next_source.Reads as next-source-reads
 
--- src/lib.rt:176:9
 next-source-requires : tie.Need-next-source-requires
 next-source-requires c κs = search needs
 
--- src/lib.rt:177:9
 next-dest-requires : tie.Need-next-dest-requires
 next-dest-requires c κs = search needs
 
--- src/lib.rt:181:8
 last-word-requires : tie.Need-last-word-requires
 last-word-requires c κs = search needs
 
--- src/lib.rt:184:19
 add-t7 : tie.Need-add-t7
-add-t7 c = ?
+add-t7 c = omega (arith, line-room (c .before .before .before .before .before .before .args .e) (c .before .before .before .before .before .before .pre .0) (sym (c .before .before .last-word .ensures) ∙ c .before .if1 .taken) (c .before .before .before .before .before .before .pre .1))
 
--- src/lib.rt:182:9
 returns : tie.Need-returns
-returns c = ?
+unfolding advanced
+returns c = rw ((sym (c .before .before .last-word .ensures) ∙ c .before .if1 .taken), c .before .before .before .before .before .next-source .ensures, c .before .before .before .before .next-dest .ensures)
 
--- src/lib.rt:193:15
 add-t8 : tie.Need-add-t8
-add-t8 c = ?
+add-t8 c = omega (arith, word-room (c .before .before .before .before .before .before .args .e) (c .before .before .before .before .before .before .pre .0) (sym (c .before .before .last-word .ensures) ∙ c .before .if1 .left))
 
--- src/lib.rt:171:1
 returns-2 : tie.Need-returns-2
-returns-2 c = ?
+unfolding advanced
+returns-2 c = rw ((sym (c .before .before .last-word .ensures) ∙ c .before .if1 .left), c .before .before .before .before .before .next-source .ensures, c .before .before .before .before .next-dest .ensures)
 
 pub advance-spec : {M : Type 1} → statement M
 advance-spec =

@@ -1,41 +1,38 @@
+-- Each part of the store as the definition has it.
+use Rattle.blitter.specs.Progress.{sourcedFrom}
+use mathlib.Core.Path.{sym, ap, _∙_}
+use Rattle.xosera.specs.Blitter.{drawing, drawn}
+use Rattle.blitter.proofs.Words.{sourced-is}
 use borrow.Author.Needs.{needs}
 use Rattle.blitter.proofs.draw.Statement.{statement}
 use Rattle.blitter.proofs.draw.Tie as tie
-use Rattle.blitter.proofs.draw.Reads as reads
-use Rattle.blitter.proofs.draw.Lts as lts
-use Rattle.blitter.proofs.fetch.Reads as fetch-reads
-use Rattle.blitter.proofs.source.Reads as source-reads
-use Rattle.blitter.proofs.write_mask.Reads as write-mask-reads
-use Rattle.memory.proofs.store.Reads as store-reads
-use Rattle.words.proofs.combined.Reads as combined-reads
 
--- src/lib.rt:138:9
 fetch-requires : tie.Need-fetch-requires
 fetch-requires c κs = search needs
 
--- src/lib.rt:139:9
 source-requires : tie.Need-source-requires
 source-requires c κs = search needs
 
--- src/lib.rt:140:9
 write-mask-requires : tie.Need-write-mask-requires
 write-mask-requires c κs = search needs
 
--- src/lib.rt:141:9
 combined-requires : tie.Need-combined-requires
 combined-requires c κs = search needs
 
--- src/lib.rt:143:5
 store-requires : tie.Need-store-requires
 store-requires c κs = search needs
 
--- src/lib.rt:134:1
 same-length : tie.Need-same-length
 same-length c = search needs
 
--- src/lib.rt:134:1
 returns : tie.Need-returns
-returns c = ?
+unfolding drawn drawing
+returns c =
+    let e = c .before .before .before .before .before .before .before .before .before .before .args .e in
+    let v = c .before .before .before .before .before .before .before .before .before .before .args .vram .now in
+    let raw = c .before .before .before .before .before .before .before .fetch .ensures in
+    let s = c .before .before .before .before .before .before .source .ensures ∙ ap (sourcedFrom e) raw ∙ sym (sourced-is e v) in
+    (raw, rw (← s, ← c .before .before .before .before .combined .ensures, ← c .before .before .before .before .before .write-mask .ensures) (c .before .before .store .ensures))
 
 pub draw-spec : {M : Type 1} → statement M
 draw-spec =

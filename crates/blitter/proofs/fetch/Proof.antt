@@ -1,26 +1,24 @@
+-- A constant keeps none, VRAM keeps the word at the source.
+use mathlib.Core.Path.{sym, _∙_}
+use Rattle.xosera.specs.Blitter.{fetched}
+use Rattle.blitter.specs.Progress.{rawWord}
 use borrow.Author.Needs.{needs}
 use Rattle.blitter.proofs.fetch.Statement.{statement}
 use Rattle.blitter.proofs.fetch.Tie as tie
-use Rattle.blitter.proofs.fetch.Reads as reads
-use Rattle.blitter.proofs.fetch.Lts as lts
-use Rattle.blitter.proofs.is_constant.Reads as is-constant-reads
-use Rattle.memory.proofs.read_word.Reads as read-word-reads
 
--- src/lib.rt:115:8
 is-constant-requires : tie.Need-is-constant-requires
 is-constant-requires c κs = search needs
 
--- src/lib.rt:116:9
 returns : tie.Need-returns
-returns c = ?
+unfolding rawWord
+returns c = rw (sym (c .before .is-constant .ensures) ∙ c .if1 .taken)
 
--- src/lib.rt:119:5
 read-word-requires : tie.Need-read-word-requires
 read-word-requires c κs = search needs
 
--- src/lib.rt:111:1
 returns-2 : tie.Need-returns-2
-returns-2 c = ?
+unfolding rawWord fetched
+returns-2 c = rw (sym (c .before .before .is-constant .ensures) ∙ c .before .if1 .left) (c .read-word .ensures)
 
 pub fetch-spec : {M : Type 1} → statement M
 fetch-spec = tie.close (tie.spec is-constant-requires returns read-word-requires returns-2)

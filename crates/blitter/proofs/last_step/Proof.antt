@@ -1,21 +1,20 @@
+-- By the test as it stands.
+use mathlib.Core.Path.{sym, _∙_}
+use Rattle.xosera.specs.Blitter.{lastStep}
 use borrow.Author.Needs.{needs}
 use Rattle.blitter.proofs.last_step.Statement.{statement}
 use Rattle.blitter.proofs.last_step.Tie as tie
-use Rattle.blitter.proofs.last_step.Reads as reads
-use Rattle.blitter.proofs.last_step.Lts as lts
-use Rattle.blitter.proofs.last_word.Reads as last-word-reads
 
--- src/lib.rt:65:8
 last-word-requires : tie.Need-last-word-requires
 last-word-requires c κs = search needs
 
--- src/lib.rt:66:9
 returns : tie.Need-returns
-returns c = ?
+unfolding lastStep
+returns c = rw (sym (c .before .before .last-word .ensures) ∙ c .before .if1 .taken)
 
--- src/lib.rt:62:1
 returns-2 : tie.Need-returns-2
-returns-2 c = ?
+unfolding lastStep
+returns-2 c = rw (sym (c .before .last-word .ensures) ∙ c .if1 .left)
 
 pub last-step-spec : {M : Type 1} → statement M
 last-step-spec = tie.close (tie.spec last-word-requires returns returns-2)

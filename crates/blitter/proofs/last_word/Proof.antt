@@ -1,11 +1,12 @@
+-- The code is the definition.
+use mathlib.Core.Path.{refl}
+use Rattle.xosera.specs.Blitter.{lastWord}
 use Rattle.blitter.proofs.last_word.Statement.{statement}
 use Rattle.blitter.proofs.last_word.Tie as tie
-use Rattle.blitter.proofs.last_word.Reads as reads
-use Rattle.blitter.proofs.last_word.Lts as lts
 
--- src/lib.rt:55:1
 returns : tie.Need-returns
-returns c = ?
+unfolding lastWord
+returns c = refl
 
 pub last-word-spec : {M : Type 1} → statement M
 last-word-spec = tie.close (tie.spec returns)

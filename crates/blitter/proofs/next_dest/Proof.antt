@@ -1,30 +1,27 @@
+-- By whether the line ends.
+use mathlib.Core.Path.{sym, _∙_}
+use Rattle.xosera.specs.Words.{wrap}
+use Rattle.xosera.specs.Blitter.{nextDest}
 use borrow.Author.Needs.{needs}
 use Rattle.blitter.proofs.next_dest.Statement.{statement}
 use Rattle.blitter.proofs.next_dest.Tie as tie
-use Rattle.blitter.proofs.next_dest.Reads as reads
-use Rattle.blitter.proofs.next_dest.Lts as lts
-use Rattle.blitter.proofs.last_word.Reads as last-word-reads
-use Rattle.std.proofs.num.wrapping_add_u16.Reads as wrapping-add-u16-reads
 
--- src/lib.rt:163:9
 wrapping-add-u16-requires : tie.Need-wrapping-add-u16-requires
 wrapping-add-u16-requires c κs = search needs
 
--- src/lib.rt:164:8
 last-word-requires : tie.Need-last-word-requires
 last-word-requires c κs = search needs
 
--- src/lib.rt:165:9
 wrapping-add-u16-requires-2 : tie.Need-wrapping-add-u16-requires-2
 wrapping-add-u16-requires-2 c κs = search needs
 
--- src/lib.rt:165:9
 returns : tie.Need-returns
-returns c = ?
+unfolding nextDest wrap
+returns c = rw (sym (c .before .before .last-word .ensures) ∙ c .before .if1 .taken) (rw (c .before .before .before .wrapping-add-u16 .ensures) at (c .wrapping-add-u162 .ensures))
 
--- src/lib.rt:160:1
 returns-2 : tie.Need-returns-2
-returns-2 c = ?
+unfolding nextDest wrap
+returns-2 c = rw (sym (c .before .last-word .ensures) ∙ c .if1 .left) (c .before .before .wrapping-add-u16 .ensures)
 
 pub next-dest-spec : {M : Type 1} → statement M
 next-dest-spec =

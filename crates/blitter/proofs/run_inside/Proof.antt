@@ -1,68 +1,57 @@
+-- The invariant: so many of the n steps are done, and the blit goes on. Each turn does one word inside a line.
+use mathlib.Core.Path.{sym, _∙_}
+use native.Mathlib.Omega.{arith}
+use Rattle.blitter.specs.Progress.{Going}
+use Rattle.blitter.proofs.Words.{inside-on}
+use Rattle.blitter.proofs.Runs.{going-start, going-drawn, long-enough}
 use Rattle.blitter.proofs.run_inside.Statement.{statement}
 use Rattle.blitter.proofs.run_inside.Tie as tie
-use Rattle.blitter.proofs.run_inside.Reads as reads
-use Rattle.blitter.proofs.run_inside.Lts as lts
-use Rattle.blitter.proofs.advance.Reads as advance-reads
-use Rattle.blitter.proofs.draw.Reads as draw-reads
-use Rattle.blitter.proofs.last_word.Reads as last-word-reads
 
 abbrev Inv-loop : tie.InvT-loop
-Inv-loop vram₀ n at₀ left₀ vram at left = ?
+Inv-loop vram₀ n at₀ left₀ vram at left = Going at₀ vram₀ n at vram left
 
 abbrev μ-loop : tie.MeasureT-loop
-μ-loop vram₀ n at₀ left₀ vram at left = ?
+μ-loop vram₀ n at₀ left₀ vram at left = left
 
--- src/lib.rt:214:5
 loop-holds : tie.Need-loop-holds Inv-loop μ-loop
-loop-holds c = ?
+loop-holds c = going-start (c .before .args .e) (c .before .args .vram .now) (c .before .args .n) (c .before .pre .1)
 
--- src/lib.rt:218:12
 last-word-requires : tie.Need-last-word-requires Inv-loop μ-loop
-last-word-requires c κs = ?
+last-word-requires c κs = tt
 
--- src/lib.rt:221:13
 draw-requires : tie.Need-draw-requires Inv-loop μ-loop
-draw-requires c κs = ?
+draw-requires c κs = long-enough (c .before .before .before .before .before .before .loop .inv .vram-length) (c .before .before .before .before .before .before .before .before .pre .0)
 
--- src/lib.rt:222:9
 advance-requires : tie.Need-advance-requires Inv-loop μ-loop
-advance-requires c κs = ?
+advance-requires c κs = (c .before .before .before .before .before .before .before .before .before .loop .inv .goes-on, inside-on _ (sym (c .before .before .before .before .before .last-word .ensures) ∙ c .before .before .before .before .if2 .left))
 
--- src/lib.rt:223:16
 sub-left : tie.Need-sub-left Inv-loop μ-loop
-sub-left c = ?
+sub-left c = omega arith
 
--- src/lib.rt:214:5
 loop-less : tie.Need-loop-less Inv-loop μ-loop
-loop-less c = ?
+loop-less c = omega arith
 
--- src/lib.rt:214:5
 loop-again : tie.Need-loop-again Inv-loop μ-loop
-loop-again c = ?
+loop-again c =
+    going-drawn (c .before .before .before .before .before .before .before .before .before .before .loop .inv) (c .before .before .before .before .before .before .before .before .before .loop-test .taken) (inside-on _ (sym (c .before .before .before .before .before .before .last-word .ensures) ∙ c .before .before .before .before .before .if2 .left)) (c .before .before .before .draw .ensures .0) (c .before .before .before .draw .ensures .1) (c .advance .ensures)
 
--- src/lib.rt:207:1
 same-length : tie.Need-same-length Inv-loop μ-loop
-same-length c = ?
+same-length c = c .before .loop .inv .vram-length
 
--- src/lib.rt:207:1
 returns : tie.Need-returns Inv-loop μ-loop
-returns c = ?
+returns c = c .before .loop .inv
 
--- src/lib.rt:207:1
 same-length-2 : tie.Need-same-length-2 Inv-loop μ-loop
-same-length-2 c = ?
+same-length-2 c = c .before .before .before .loop .inv .vram-length
 
--- src/lib.rt:207:1
 returns-2 : tie.Need-returns-2 Inv-loop μ-loop
-returns-2 c = ?
+returns-2 c = c .before .before .before .loop .inv
 
--- src/lib.rt:207:1
 same-length-3 : tie.Need-same-length-3 Inv-loop μ-loop
-same-length-3 c = ?
+same-length-3 c = c .before .before .before .before .before .loop .inv .vram-length
 
--- src/lib.rt:207:1
 returns-3 : tie.Need-returns-3 Inv-loop μ-loop
-returns-3 c = ?
+returns-3 c = c .before .before .before .before .before .loop .inv
 
 pub run-inside-spec : {M : Type 1} → statement M
 run-inside-spec =

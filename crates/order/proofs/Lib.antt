@@ -1,0 +1,14 @@
+-- Demand 3: the order of blit steps and host accesses does not matter.
+pub mod Tests
+pub mod Stores
+pub mod StoreAcross
+pub mod Footprint
+pub mod Acts
+pub mod Fit
+pub mod Status
+pub mod Finish
+pub mod CallAcross
+pub mod Answers
+pub mod Lists
+pub mod OrderOfWork
+pub mod Demand3

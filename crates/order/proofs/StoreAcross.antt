@@ -1,0 +1,186 @@
+-- A store to a word that the blit neither reads nor writes moves across blit steps: the steps fetch the same source words, so
+-- they draw the same, and the two stores go to different words.
+use mathlib.Core.Path.{_≡_, refl, sym, ap, ap₂, _∙_}
+use mathlib.Core.Bool.{Bool, true, false, cond, not, _&&_, _||_}
+use mathlib.Core.List.{List}
+use Prim.Native.Nat.{ℕ, zero, suc, _%_}
+use lib.Dec.{eqb}
+use borrow.Author.Tests.{eq-eqb}
+use Rattle.xosera.specs.Words.{shifted}
+use Rattle.xosera.specs.Memories.{place, word, Store, stored}
+use Rattle.xosera.specs.Adapter.{Side, Adapter}
+use Rattle.xosera.specs.Blitter.{isConstant, fetched, sourced, drawing, drawn, lastStep, nextKept, next, launched, succeeding, stepped, steps}
+use Rattle.xosera.specs.Order.{readsNow, writesNow, blitReads, blitWrites}
+use Rattle.xosera.specs.declared.Engine.{Engine}
+use Rattle.xosera.specs.declared.BlitRegs.{BlitRegs}
+use Rattle.xosera.proofs.Branches.{cond-yes}
+use Rattle.xosera.proofs.StepCases.{stepped-idle}
+use Rattle.xosera.proofs.RangeLaws.{stepped-side, stepped-vram-length}
+use Rattle.order.proofs.Tests.{clash, not-passed, and-both, or-left, or-right}
+use Rattle.order.proofs.Stores.{touches, stored-place, stored-word, stored-swap, Separate}
+
+-- The source word of an engine's next step is not the one that a store touches.
+abbrev pub Unfetched : Store → Engine → List ℕ → Type 0
+Unfetched k e v = isConstant e ≡ false → touches k v (place v (e .regs .srcs)) ≡ false
+
+module _ (k : Store) (e : Engine) (v : List ℕ) (unfetched : Unfetched k e v) where
+  -- What is made of the source word is the same after the store.
+  source-same : (constant : ℕ) (f : ℕ → ℕ) → cond (isConstant e) constant (f (fetched e (stored k v))) ≡ cond (isConstant e) constant (f (fetched e v))
+  unfolding fetched
+  source-same c f = go (isConstant e) refl
+    where
+      go : (b : Bool) → isConstant e ≡ b → cond b c (f (word (stored k v) (e .regs .srcs))) ≡ cond b c (f (word v (e .regs .srcs)))
+      go true q = refl
+      go false q = ap f (stored-word k v (e .regs .srcs) (unfetched q))
+
+  sourced-same : sourced e (stored k v) ≡ sourced e v
+  unfolding sourced
+  sourced-same = source-same (e .regs .srcs) (shifted (e .regs .shift % 4) (e .kept))
+
+  drawing-same : drawing e (stored k v) ≡ drawing e v
+  unfolding drawing
+  drawing-same = rw sourced-same
+
+  next-same : next e (stored k v) ≡ next e v
+  unfolding next nextKept
+  next-same = rw (source-same 0 (λ (s : ℕ). s))
+
+  drawn-across : Separate k (drawing e v) v → drawn e (stored k v) ≡ stored k (drawn e v)
+  unfolding drawn
+  drawn-across apart = rw drawing-same (sym (stored-swap k (drawing e v) v apart))
+
+-- A step of a running engine, part by part.
+module _ (a : Adapter) (on : a .engine .running ≡ true) where
+  pub stepped-engine : stepped a .engine ≡ cond (lastStep (a .engine)) (succeeding (a .queued) (a .side .blit)) (next (a .engine) (a .vram))
+  unfolding stepped
+  stepped-engine = ap (λ (x : Adapter). x .engine) (cond-yes _ a on)
+
+  pub stepped-queued : stepped a .queued ≡ cond (lastStep (a .engine)) false (a .queued)
+  unfolding stepped
+  stepped-queued = ap (λ (x : Adapter). x .queued) (cond-yes _ a on)
+
+  pub stepped-vram : stepped a .vram ≡ drawn (a .engine) (a .vram)
+  unfolding stepped
+  stepped-vram = ap (λ (x : Adapter). x .vram) (cond-yes _ a on)
+
+-- b is a after a store: its blits are the same, the waiting registers of a queued one included.
+pub record Beside (k : Store) (a b : Adapter) : Type 0 where
+  pub engine : b .engine ≡ a .engine
+  pub queued : b .queued ≡ a .queued
+  pub waiting : a .queued ≡ true → b .side .blit ≡ a .side .blit
+  pub vram : b .vram ≡ stored k (a .vram)
+
+-- The next step reads and writes no word that the store touches.
+pub record Free (k : Store) (a : Adapter) : Type 0 where
+  pub unread : (w : ℕ) → touches k (a .vram) w ≡ true → readsNow a w ≡ false
+  pub unwritten : (w : ℕ) → touches k (a .vram) w ≡ true → writesNow a w ≡ false
+
+succeeding-same : (q : Bool) (r s : BlitRegs) → (q ≡ true → s ≡ r) → succeeding q s ≡ succeeding q r
+unfolding succeeding
+succeeding-same true r s h = ap launched (h refl)
+succeeding-same false r s h = refl
+
+still-queued : (last q : Bool) → cond last false q ≡ true → q ≡ true
+still-queued true q h = absurd (clash h refl)
+still-queued false q h = h
+
+writes-off : (a : Adapter) (w : ℕ) → a .engine .running ≡ false → writesNow a w ≡ false
+unfolding writesNow
+writes-off a w off = ap (λ (r : Bool). r && not (eqb (drawing (a .engine) (a .vram) .mask) 0) && eqb (place (a .vram) (a .engine .regs .dstd)) w) off
+
+module _ (k : Store) (a b : Adapter) (beside : Beside k a b) (free : Free k a) where
+  runs-alike : b .engine .running ≡ a .engine .running
+  runs-alike = ap (λ (e : Engine). e .running) (beside .engine)
+
+  module _ (on : a .engine .running ≡ true) where
+    unfetched : Unfetched k (a .engine) (a .vram)
+    unfolding readsNow
+    unfetched varies = not-passed (touches k (a .vram) (place (a .vram) (a .engine .regs .srcs)))
+        (λ t. clash
+        (and-both (and-both on (ap not varies)) (eq-eqb (place (a .vram) (a .engine .regs .srcs)) (place (a .vram) (a .engine .regs .srcs)) refl))
+        (free .unread (place (a .vram) (a .engine .regs .srcs)) t))
+
+    separate : Separate k (drawing (a .engine) (a .vram)) (a .vram)
+    unfolding writesNow touches drawing
+    separate w t =
+        sym (ap (λ (r : Bool). r && not (eqb (drawing (a .engine) (a .vram) .mask) 0) && eqb (place (a .vram) (a .engine .regs .dstd)) w) on)
+        ∙ free .unwritten w t
+
+    across-running : Beside k (stepped a) (stepped b)
+    across-running =
+        let on' : b .engine .running ≡ true = runs-alike ∙ on in
+        let s : succeeding (a .queued) (b .side .blit) ≡ succeeding (a .queued) (a .side .blit) = succeeding-same (a .queued) (a .side .blit) (b .side .blit) (beside .waiting) in
+        record {
+          engine = cc (stepped-engine a on, stepped-engine b on', beside .engine, beside .queued, beside .vram, next-same k (a .engine) (a .vram) unfetched);
+          queued = cc (stepped-queued a on, stepped-queued b on', beside .engine, beside .queued);
+          waiting = λ q. ap (λ (x : Side). x .blit) (stepped-side b) ∙ beside .waiting (still-queued (lastStep (a .engine)) (a .queued) (sym (stepped-queued a on) ∙ q)) ∙ ap (λ (x : Side). x .blit) (sym (stepped-side a));
+          vram = cc (stepped-vram a on, stepped-vram b on', beside .engine, beside .vram, drawn-across k (a .engine) (a .vram) unfetched separate);
+        }
+
+    writes-running : (w : ℕ) → writesNow b w ≡ writesNow a w
+    unfolding writesNow
+    writes-running w = cc (beside .engine, beside .vram, stored-place k (a .vram) (a .engine .regs .dstd), drawing-same k (a .engine) (a .vram) unfetched)
+
+  -- One step keeps a store beside the blit, and reads and writes the same words.
+  across-step : Beside k (stepped a) (stepped b)
+  across-step = go (a .engine .running) refl
+    where
+      go : (r : Bool) → a .engine .running ≡ r → Beside k (stepped a) (stepped b)
+      go true on = across-running on
+      go false off = rw (stepped-idle a off, stepped-idle b (runs-alike ∙ off)) beside
+
+  reads-now-same : (w : ℕ) → readsNow b w ≡ readsNow a w
+  unfolding readsNow
+  reads-now-same w = cc (beside .engine, beside .vram, stored-place k (a .vram) (a .engine .regs .srcs))
+
+  writes-now-same : (w : ℕ) → writesNow b w ≡ writesNow a w
+  writes-now-same w = go (a .engine .running) refl
+    where
+      go : (r : Bool) → a .engine .running ≡ r → writesNow b w ≡ writesNow a w
+      go true on = writes-running on w
+      go false off = writes-off b w (runs-alike ∙ off) ∙ sym (writes-off a w off)
+
+-- The next n steps read and write no word that the store touches.
+pub record Clear (n : ℕ) (k : Store) (a : Adapter) : Type 0 where
+  pub unread : (w : ℕ) → touches k (a .vram) w ≡ true → blitReads n a w ≡ false
+  pub unwritten : (w : ℕ) → touches k (a .vram) w ≡ true → blitWrites n a w ≡ false
+
+clear-now : (n : ℕ) (k : Store) (a : Adapter) → Clear (suc n) k a → Free k a
+unfolding blitReads blitWrites
+clear-now n k a clear = record {
+  unread = λ w t. or-left (readsNow a w) (blitReads n (stepped a) w) (clear .unread w t);
+  unwritten = λ w t. or-left (writesNow a w) (blitWrites n (stepped a) w) (clear .unwritten w t);
+}
+
+touches-stepped : (k : Store) (a : Adapter) (w : ℕ) → touches k (stepped a .vram) w ≡ touches k (a .vram) w
+unfolding touches place
+touches-stepped k a w = rw (stepped-vram-length a)
+
+clear-later : (n : ℕ) (k : Store) (a : Adapter) → Clear (suc n) k a → Clear n k (stepped a)
+unfolding blitReads blitWrites
+clear-later n k a clear = record {
+  unread = λ w t. or-right (readsNow a w) (blitReads n (stepped a) w) (clear .unread w (sym (touches-stepped k a w) ∙ t));
+  unwritten = λ w t. or-right (writesNow a w) (blitWrites n (stepped a) w) (clear .unwritten w (sym (touches-stepped k a w) ∙ t));
+}
+
+-- n steps keep a store beside the blit.
+pub across : (n : ℕ) (k : Store) (a b : Adapter) → Beside k a b → Clear n k a → Beside k (steps n a) (steps n b)
+unfolding steps
+across zero k a b beside clear = beside
+across (suc n) k a b beside clear =
+    across n k (stepped a) (stepped b) (across-step k a b beside (clear-now n k a clear)) (clear-later n k a clear)
+
+-- They read and write the same words.
+pub reads-same : (n : ℕ) (k : Store) (a b : Adapter) → Beside k a b → Clear n k a → (w : ℕ) → blitReads n b w ≡ blitReads n a w
+unfolding blitReads
+reads-same zero k a b beside clear w = refl
+reads-same (suc n) k a b beside clear w =
+    let free : Free k a = clear-now n k a clear in
+    ap₂ _||_ (reads-now-same k a b beside free w) (reads-same n k (stepped a) (stepped b) (across-step k a b beside free) (clear-later n k a clear) w)
+
+pub writes-same : (n : ℕ) (k : Store) (a b : Adapter) → Beside k a b → Clear n k a → (w : ℕ) → blitWrites n b w ≡ blitWrites n a w
+unfolding blitWrites
+writes-same zero k a b beside clear w = refl
+writes-same (suc n) k a b beside clear w =
+    let free : Free k a = clear-now n k a clear in
+    ap₂ _||_ (writes-now-same k a b beside free w) (writes-same n k (stepped a) (stepped b) (across-step k a b beside free) (clear-later n k a clear) w)

@@ -1,0 +1,2 @@
+-- The order of things, stated over the definitions of crate xosera.
+pub mod Work

@@ -1,0 +1,2 @@
+-- What every test of a range is answered by.
+pub mod Tests
