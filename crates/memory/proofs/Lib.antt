@@ -1,4 +1,3 @@
 -- Laws of the memories that belong to no one function.
 pub mod Lengths
 pub mod Stores
-pub mod Parts

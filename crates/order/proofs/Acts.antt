@@ -1,6 +1,6 @@
 -- What a call asks for is what the paper's words say of it: which word it writes, which it loads, whether it starts a blit.
 use mathlib.Core.Path.{_≡_, refl, sym, ap, _∙_}
-use mathlib.Core.Bool.{Bool, true, false, cond, not, _||_}
+use mathlib.Core.Bool.{Bool, true, false, _||_, and-eq-true-iff}
 use mathlib.Core.List.{List, [], _∷_}
 use Prim.Native.Nat.{ℕ, zero, suc}
 use lib.Dec.{eqb}
@@ -9,17 +9,17 @@ use borrow.Author.Tests.{eq-eqb, ne-eqb}
 use Rattle.xosera.specs.declared.BlitRegs.{BlitRegs}
 use Rattle.xosera.specs.Words.{wrap}
 use Rattle.xosera.specs.Memories.{place, Store, noStore}
-use Rattle.xosera.specs.Adapter.{Side, Adapter, Act, quiet, withHost, withTimer}
+use Rattle.xosera.specs.Adapter.{Side, Adapter, Act}
 use Rattle.xosera.specs.XrSpace.{within, isBlitRegister, put, blitWrite, xrWrite}
-use Rattle.xosera.specs.HostBytes.{wordOf, latched, timerSaved, xrLoaded, vramLoad, writeSysCtrl, writeIntCtrl, writeTimer, writeRdXaddr, writeWrXaddr, writeXdata, writeRdIncr, writeRdAddr, writeWrIncr, writeWrAddr, writeData, writeNothing, writeWord, writeByte, readByte, readXdata, readData}
+use Rattle.xosera.specs.HostBytes.{wordOf, latched, xrLoaded, vramLoad, writeXdata, writeRdAddr, writeData, writeNothing, writes, writeWord, writeByte, readByte, readData}
 use Rattle.xosera.specs.TimerTick as TimerTick
 use Rattle.xosera.specs.Events.{Call, write, read, tick, frameEnd, line, call}
 use Rattle.xosera.specs.Refusals.{blitterFull}
 use Rattle.xosera.specs.Calls.{actOf}
 use Rattle.xosera.specs.Order.{accepted, callWrites, callLoads, callStarts}
-use Rattle.xosera.proofs.Branches.{cond-no}
+use Rattle.xosera.proofs.Branches.{cond-no, cond-either, cond-cases}
 use Rattle.order.specs.Work.{callTries}
-use Rattle.order.proofs.Tests.{clash, not-passed, and-left, and-right, and-both}
+use Rattle.order.proofs.Tests.{clash, not-passed, and-both}
 use Rattle.order.proofs.Stores.{touches}
 
 -- What the paper says of a call, for what the call asks.
@@ -29,20 +29,28 @@ pub record Worded (a : Adapter) (c : Call) (p : Act) : Type 0 where
   pub loads : p .load ≡ true → callLoads a c (place (a .vram) (p .side .host .vram .rdaddr .0)) ≡ true
   pub waits : callTries a c ≡ false → a .queued ≡ true → p .side .blit ≡ a .side .blit
 
+-- What an act asks besides the host's side and the status.
+abbrev asked : Act → Store × Bool × Bool × BlitRegs
+asked p = (p .store, p .load, p .start, p .side .blit)
+
 -- An act that stores, loads and starts nothing and leaves the blitter's registers alone.
-silent : {a : Adapter} {c : Call} {p : Act} → p .store ≡ noStore → p .load ≡ false → p .start ≡ false → p .side .blit ≡ a .side .blit → Worded a c p
+silent : {a : Adapter} {c : Call} {p : Act} → asked p ≡ (noStore, false, false, a .side .blit) → Worded a c p
 unfolding touches
-silent {a} store load start blit = record {
-  starts = λ h. absurd (clash h start);
-  writes = λ w h. absurd (clash h (ap (λ (k : Store). touches k (a .vram) w) store));
-  loads = λ h. absurd (clash h load);
-  waits = λ t q. blit;
+silent {a} e = record {
+  starts = λ h. absurd (clash h (ap (λ (t : Store × Bool × Bool × BlitRegs). t .2) e));
+  writes = λ w h. absurd (clash h (ap (λ (t : Store × Bool × Bool × BlitRegs). touches (t .0) (a .vram) w) e));
+  loads = λ h. absurd (clash h (ap (λ (t : Store × Bool × Bool × BlitRegs). t .1) e));
+  waits = λ t q. ap (λ (t : Store × Bool × Bool × BlitRegs). t .3) e;
 }
 
 -- What holds of every entry of a table, by its number, and of the default holds of what is looked up.
 abbrev Each {ℓ} : {A : Type ℓ} → (ℕ → A → Type 0) → List A → Type 0
 Each P [] = Unit {0}
 Each P (x ∷ l) = P 0 x × Each (λ k. P (suc k)) l
+
+infixr 20 _▹_
+abbrev _▹_ : {A B : Type 0} → A → B → A × B
+a ▹ b = (a, b)
 
 each {ℓ} : {A : Type ℓ} (P : ℕ → A → Type 0) (d : A) → ((r : ℕ) → P r d) → (l : List A) → Each P l → (r : ℕ) → P r (getD l r d)
 each P d h [] t r = h r
@@ -82,7 +90,7 @@ module _ (a : Adapter) (b : ℕ) where
         starts = λ h. and-both ok h;
         writes = λ w h. absurd (clash h refl);
         loads = λ h. absurd (clash h refl);
-        waits = λ t q. blitWrite-outside (a .side .blit) at (wordOf (getD (a .side .host .latches) 5 0) b) (not-passed (isBlitRegister at) (λ i. clash (and-both i q) t));
+        waits = λ t q. blitWrite-outside (a .side .blit) at _ (not-passed (isBlitRegister at) (λ i. clash (and-both i q) t));
       }
 
   rdaddr-worded : OddWrite 7 writeRdAddr
@@ -99,11 +107,9 @@ module _ (a : Adapter) (b : ℕ) where
   data-worded : (r : ℕ) → eqb r 10 || eqb r 11 ≡ true → OddWrite r writeData
   unfolding OddWrite callWrites touches
   data-worded r port ok =
-      let some : Bool = not (eqb (a .side .host .vram .nibbles) 0) in
-      let here : ℕ → Bool = λ w. eqb (place (a .vram) (a .side .host .vram .wraddr .0)) w in
       record {
         starts = λ h. absurd (clash h refl);
-        writes = λ w h. and-both (and-both (and-both port ok) (and-left some (here w) h)) (and-right some (here w) h);
+        writes = λ w h. let k = simp and-eq-true-iff at h in and-both (and-both (and-both port ok) (k .0)) (k .1);
         loads = λ h. absurd (clash h refl);
         waits = λ t q. refl;
       }
@@ -111,75 +117,39 @@ module _ (a : Adapter) (b : ℕ) where
   odd-write : (r : ℕ) → OddWrite r (writeWord r)
   unfolding OddWrite writeWord xrLoaded
   odd-write =
-      each OddWrite writeNothing (λ r ok. silent refl refl refl refl)
-      (writeSysCtrl ∷ writeIntCtrl ∷ writeTimer ∷ writeRdXaddr ∷ writeWrXaddr ∷ writeXdata
-      ∷ writeRdIncr ∷ writeRdAddr ∷ writeWrIncr ∷ writeWrAddr ∷ writeData ∷ writeData ∷ []) (
-        λ ok. silent refl refl refl refl,
-        (
-          λ ok. silent refl refl refl refl,
-          (
-            λ ok. silent refl refl refl refl,
-            (
-              λ ok. silent refl refl refl refl,
-              (
-                λ ok. silent refl refl refl refl,
-                (
-                  xdata-worded,
-                  (
-                    λ ok. silent refl refl refl refl,
-                    (
-                      rdaddr-worded,
-                      (
-                        λ ok. silent refl refl refl refl,
-                        (
-                          λ ok. silent refl refl refl refl,
-                          (
-                            data-worded 10 refl,
-                            (data-worded 11 refl, tt),
-                          ),
-                        ),
-                      ),
-                    ),
-                  ),
-                ),
-              ),
-            ),
-          ),
-        ),
-      )
+      each OddWrite writeNothing (λ r ok. silent refl) writes
+      ((λ ok. silent refl) ▹ (λ ok. silent refl) ▹ (λ ok. silent refl) ▹ (λ ok. silent refl) ▹ (λ ok. silent refl) ▹ xdata-worded
+      ▹ (λ ok. silent refl) ▹ rdaddr-worded ▹ (λ ok. silent refl) ▹ (λ ok. silent refl) ▹ data-worded 10 refl ▹ data-worded 11 refl ▹ tt)
 
 module _ (a : Adapter) (r : ℕ) where
   even-read : Worded a (read r false) (readByte (a .side) r false)
   unfolding readByte
-  even-read = go (eqb r 2)
-    where
-      go : (timer : Bool) → Worded a (read r false) (cond timer (quiet (withHost (a .side) (withTimer (a .side .host) (timerSaved (a .side .host .timer))))) (quiet (a .side)))
-      go true = silent refl refl refl refl
-      go false = silent refl refl refl refl
+  even-read = cond-either (Worded a (read r false)) (eqb r 2) _ _ (silent refl) (silent refl)
+
+  data-read : accepted a (call (read r true)) ≡ true → eqb r 10 || eqb r 11 ≡ true → Worded a (read r true) (readData (a .side))
+  unfolding vramLoad callLoads touches
+  data-read ok port =
+      let at : ℕ = place (a .vram) (wrap (a .side .host .vram .rdaddr .0) (a .side .host .vram .rdincr)) in
+      record {
+        starts = λ h. absurd (clash h refl);
+        writes = λ w h. absurd (clash h refl);
+        loads = λ h. and-both (and-both port ok) (eq-eqb at at refl);
+        waits = λ t q. refl;
+      }
 
   odd-read : accepted a (call (read r true)) ≡ true → Worded a (read r true) (readByte (a .side) r true)
-  unfolding readByte vramLoad xrLoaded callLoads touches
-  odd-read ok = go (eqb r 5) (eqb r 10 || eqb r 11) refl
-    where
-      go : (xdata port : Bool) → eqb r 10 || eqb r 11 ≡ port → Worded a (read r true) (cond xdata (readXdata (a .side)) (cond port (readData (a .side)) (quiet (a .side))))
-      go true port e = silent refl refl refl refl
-      go false false e = silent refl refl refl refl
-      go false true e =
-          let at : ℕ = place (a .vram) (wrap (a .side .host .vram .rdaddr .0) (a .side .host .vram .rdincr)) in
-          record {
-            starts = λ h. absurd (clash h refl);
-            writes = λ w h. absurd (clash h refl);
-            loads = λ h. and-both (and-both e ok) (eq-eqb at at refl);
-            waits = λ t q. refl;
-          }
+  unfolding readByte xrLoaded
+  odd-read ok =
+      cond-either (Worded a (read r true)) (eqb r 5) _ _ (silent refl)
+      (cond-cases (Worded a (read r true)) (eqb r 10 || eqb r 11) _ _ (data-read ok) (λ _. silent refl))
 
 -- Every accepted call asks for what the paper says of it.
 pub worded : (a : Adapter) (c : Call) → accepted a (call c) ≡ true → Worded a c (actOf (a .side) c)
 unfolding actOf writeByte OddWrite latched TimerTick.tick TimerTick.frameEnd
 worded a (write r true b) ok = odd-write a b r ok
-worded a (write r false b) ok = silent refl refl refl refl
+worded a (write r false b) ok = silent refl
 worded a (read r true) ok = odd-read a r ok
 worded a (read r false) ok = even-read a r
-worded a tick ok = silent refl refl refl refl
-worded a frameEnd ok = silent refl refl refl refl
-worded a line ok = silent refl refl refl refl
+worded a tick ok = silent refl
+worded a frameEnd ok = silent refl
+worded a line ok = silent refl

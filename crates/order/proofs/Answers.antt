@@ -18,7 +18,8 @@ use Rattle.order.proofs.Fit.{fit-status}
 use Rattle.order.proofs.Finish.{Finishes}
 
 -- Odd reads show the status at 1 alone, so they agree but for bit 6 there.
-low-alike : (full : Bool) (h : Host) (s t n : ℕ) → withoutBit 6 s ≡ withoutBit 6 t → agreedBut full (read n true) (lowByte h s n) ≡ agreedBut full (read n true) (lowByte h t n)
+low-alike : (full : Bool) (h : Host) (s t n : ℕ) → withoutBit 6 s ≡ withoutBit 6 t →
+    agreedBut full (read n true) (lowByte h s n) ≡ agreedBut full (read n true) (lowByte h t n)
 unfolding agreedBut withoutFull agreed lowByte
 low-alike full h s t zero e = refl
 low-alike true h s t (suc zero) e = e
@@ -26,7 +27,8 @@ low-alike false h s t (suc zero) e = e
 low-alike full h s t (suc (suc n)) e = refl
 
 -- Even reads show whether the blitter is full and busy at 0 alone.
-high-full : (h : Host) (full busy : Bool) (n : ℕ) → agreedBut true (read n false) (highByte h false false n) ≡ agreedBut true (read n false) (highByte h full busy n)
+high-full : (h : Host) (full busy : Bool) (n : ℕ) →
+    agreedBut true (read n false) (highByte h false false n) ≡ agreedBut true (read n false) (highByte h full busy n)
 unfolding agreedBut withoutFull agreed highByte withoutBit
 high-full h true true zero = refl
 high-full h true false zero = refl
@@ -34,13 +36,15 @@ high-full h false true zero = refl
 high-full h false false zero = refl
 high-full h full busy (suc n) = refl
 
-high-alone : (h : Host) (busy : Bool) (n : ℕ) → agreedBut false (read n false) (highByte h false false n) ≡ agreedBut false (read n false) (highByte h false busy n)
+high-alone : (h : Host) (busy : Bool) (n : ℕ) →
+    agreedBut false (read n false) (highByte h false false n) ≡ agreedBut false (read n false) (highByte h false busy n)
 unfolding agreedBut withoutFull agreed highByte withoutBit
 high-alone h true zero = refl
 high-alone h false zero = refl
 high-alone h busy (suc n) = refl
 
-high-alike : (full : Bool) (h : Host) (queued busy : Bool) (n : ℕ) → (full ≡ false → queued ≡ false) → agreedBut full (read n false) (highByte h false false n) ≡ agreedBut full (read n false) (highByte h queued busy n)
+high-alike : (full : Bool) (h : Host) (queued busy : Bool) (n : ℕ) → (full ≡ false → queued ≡ false) →
+    agreedBut full (read n false) (highByte h false false n) ≡ agreedBut full (read n false) (highByte h queued busy n)
 high-alike true h queued busy n alone = high-full h queued busy n
 high-alike false h queued busy n alone = rw (alone refl) (high-alone h busy n)
 
@@ -56,16 +60,20 @@ module _ {full : Bool} (a r : Adapter) (f : Finishes full a r) where
   reference-off : r .engine .running ≡ false
   reference-off = ap (λ (e : Engine). e .running) (f .engine)
 
+  status-alike : withoutBit 6 (r .status) ≡ withoutBit 6 (a .status)
+  status-alike = without-alike (r .status) (a .status) (fit-status r (f .fit-ref)) (fit-status a (f .fit)) (f .status)
+
   given-alike : (c : Call) → agreedBut full c (given r (call c)) ≡ agreedBut full c (given a (call c))
   unfolding given
   given-alike (write n odd b) = refl
-  given-alike (read n true) = rw host-alike (low-alike full (a .side .host) (r .status) (a .status) n (without-alike (r .status) (a .status) (fit-status r (f .fit-ref)) (fit-status a (f .fit)) (f .status)))
+  given-alike (read n true) = rw host-alike (low-alike full (a .side .host) (r .status) (a .status) n status-alike)
   given-alike (read n false) = rw (host-alike, f .unqueued, reference-off) (high-alike full (a .side .host) (a .queued) (a .engine .running) n (f .alone))
   given-alike tick = refl
   given-alike frameEnd = refl
   given-alike line = line-free full (given r (call line)) (given a (call line))
 
-  pub value-alike : (c : Call) → refusal r (call c) ≡ refusal a (call c) → agreedBut full c (answer r (call c) .value) ≡ agreedBut full c (answer a (call c) .value)
+  pub value-alike : (c : Call) → refusal r (call c) ≡ refusal a (call c) →
+      agreedBut full c (answer r (call c) .value) ≡ agreedBut full c (answer a (call c) .value)
   unfolding answer
   value-alike c e = rw e (go (eqb (refusal a (call c)) 0))
     where

@@ -7,17 +7,17 @@ use Prim.Native.Nat.{ℕ}
 use lib.Dec.{eqb}
 use Rattle.xosera.specs.declared.BlitRegs.{BlitRegs}
 use Rattle.xosera.specs.Memories.{place, word, Store, stored}
-use Rattle.xosera.specs.Adapter.{Side, Adapter, Act, withHost, withVramPort, withBuffer}
+use Rattle.xosera.specs.Adapter.{Side, Adapter, Act}
 use Rattle.xosera.specs.Blitter.{blitWords, wordsLeft}
 use Rattle.xosera.specs.Events.{Call, call}
 use Rattle.xosera.specs.Refusals.{refusal}
 use Rattle.xosera.specs.Calls.{actOf, vramLoaded, perform, done, after}
-use Rattle.xosera.specs.Order.{accepted, Apart, blitReads, blitWrites}
+use Rattle.xosera.specs.Order.{accepted, Apart, blitWrites}
 use Rattle.xosera.proofs.Branches.{cond-yes, cond-no, cond-either}
 use Rattle.order.specs.Work.{Fit, callTries}
 use Rattle.order.proofs.Tests.{clash, not-passed}
 use Rattle.order.proofs.Stores.{stored-place}
-use Rattle.order.proofs.StoreAcross.{Beside, Clear, across, reads-same, writes-same}
+use Rattle.order.proofs.StoreAcross.{Beside, Clear, across, SameWords, same-words}
 use Rattle.order.proofs.Footprint.{unwritten-stays}
 use Rattle.order.proofs.Acts.{Worded, worded}
 use Rattle.order.proofs.Fit.{fit-after, refused-alike, unqueued-patient}
@@ -32,15 +32,20 @@ left-cases false r s h = refl
 beside-left : (k : Store) (a b : Adapter) → Beside k a b → wordsLeft b ≡ wordsLeft a
 unfolding wordsLeft
 beside-left k a b h =
-    let w : cond (a .queued) (blitWords (b .side .blit)) 0 ≡ cond (a .queued) (blitWords (a .side .blit)) 0 = left-cases (a .queued) (a .side .blit) (b .side .blit) (h .waiting) in
+    let waiting : cond (a .queued) (blitWords (b .side .blit)) 0 ≡ cond (a .queued) (blitWords (a .side .blit)) 0 =
+    left-cases (a .queued) (a .side .blit) (b .side .blit) (h .waiting) in
     cc (h .engine, h .queued)
+
+-- The address that an act leaves in 7.
+abbrev readAddress : Act → ℕ
+readAddress p = p .side .host .vram .rdaddr .0
 
 -- What an act asks of pending work: to start nothing, store to no word that it reads or writes, load no word that it writes, and
 -- leave the registers of a queued blit alone.
 record Aside (p : Act) (a : Adapter) : Type 0 where
   start : p .start ≡ false
   clear : Clear (wordsLeft a) (p .store) a
-  unwritten : p .load ≡ true → blitWrites (wordsLeft a) a (place (a .vram) (p .side .host .vram .rdaddr .0)) ≡ false
+  unwritten : p .load ≡ true → blitWrites (wordsLeft a) a (place (a .vram) (readAddress p)) ≡ false
   waits : a .queued ≡ true → p .side .blit ≡ a .side .blit
 
 module _ (p : Act) (a : Adapter) (aside : Aside p a) where
@@ -60,38 +65,41 @@ module _ (p : Act) (a : Adapter) (aside : Aside p a) where
   performed-left : wordsLeft (perform p a) ≡ wordsLeft a
   performed-left = beside-left (p .store) a (perform p a) performed-beside
 
-  reads-performed : (w : ℕ) → blitReads (wordsLeft (perform p a)) (perform p a) w ≡ blitReads (wordsLeft a) a w
-  reads-performed w = rw performed-left (reads-same (wordsLeft a) (p .store) a (perform p a) performed-beside (aside .clear) w)
-
-  writes-performed : (w : ℕ) → blitWrites (wordsLeft (perform p a)) (perform p a) w ≡ blitWrites (wordsLeft a) a w
-  writes-performed w = rw performed-left (writes-same (wordsLeft a) (p .store) a (perform p a) performed-beside (aside .clear) w)
+  performed-words : SameWords (wordsLeft a) a (perform p a)
+  performed-words = same-words (wordsLeft a) (p .store) a (perform p a) performed-beside (aside .clear)
 
   -- The work finished after the store is the store made after the work.
   performed-finished : finished (perform p a) .vram ≡ stored (p .store) (finished a .vram)
   performed-finished = rw performed-left (across (wordsLeft a) (p .store) a (perform p a) performed-beside (aside .clear) .vram)
 
   -- The word that is loaded is the same before and after the work.
-  loads-alike : p .load ≡ true → word (finished (perform p a) .vram) (p .side .host .vram .rdaddr .0) ≡ word (perform p a .vram) (p .side .host .vram .rdaddr .0)
+  loads-alike : p .load ≡ true → word (finished (perform p a) .vram) (readAddress p) ≡ word (perform p a .vram) (readAddress p)
   unfolding perform
   loads-alike load =
-      let at : ℕ = p .side .host .vram .rdaddr .0 in
-      unwritten-stays (wordsLeft (perform p a)) (perform p a) at
-      (ap (blitWrites (wordsLeft (perform p a)) (perform p a)) (stored-place (p .store) (a .vram) at) ∙ writes-performed (place (a .vram) at) ∙ aside .unwritten load)
+      let here : place (perform p a .vram) (readAddress p) ≡ place (a .vram) (readAddress p) = stored-place (p .store) (a .vram) (readAddress p) in
+      rw performed-left
+      (unwritten-stays (wordsLeft a) (perform p a) (readAddress p) (rw here (performed-words .writes (place (a .vram) (readAddress p)) ∙ aside .unwritten load)))
 
   module _ (r : Adapter) (vram : r .vram ≡ finished a .vram) where
     vram-alike : perform p r .vram ≡ finished (perform p a) .vram
     unfolding perform
     vram-alike = ap (stored (p .store)) vram ∙ sym performed-finished
 
+    loaded-alike : p .load ≡ true → vramLoaded (p .side) (perform p r .vram) ≡ vramLoaded (p .side) (perform p a .vram)
+    unfolding vramLoaded
+    loaded-alike load = rw (ap (λ (v : List ℕ). word v (readAddress p)) vram-alike ∙ loads-alike load)
+
     side-alike : perform p r .side ≡ perform p a .side
-    unfolding perform vramLoaded
+    unfolding perform
     side-alike = go (p .load) refl
       where
-        go : (b : Bool) → p .load ≡ b → cond b (vramLoaded (p .side) (stored (p .store) (r .vram))) (p .side) ≡ cond b (vramLoaded (p .side) (stored (p .store) (a .vram))) (p .side)
-        go true load = ap (λ (v : ℕ). withHost (p .side) (withVramPort (p .side .host) (withBuffer (p .side .host .vram) v))) (ap (λ (v : List ℕ). word v (p .side .host .vram .rdaddr .0)) vram-alike ∙ loads-alike load)
+        go : (b : Bool) → p .load ≡ b →
+            cond b (vramLoaded (p .side) (perform p r .vram)) (p .side) ≡ cond b (vramLoaded (p .side) (perform p a .vram)) (p .side)
+        go true load = loaded-alike load
         go false none = refl
 
-performed-finishes : {full : Bool} (p : Act) (a r : Adapter) → Aside p a → Finishes full a r → Fit (perform p a) → Fit (perform p r) → Finishes full (perform p a) (perform p r)
+performed-finishes : {full : Bool} (p : Act) (a r : Adapter) → Aside p a → Finishes full a r → Fit (perform p a) → Fit (perform p r) →
+    Finishes full (perform p a) (perform p r)
 unfolding perform
 performed-finishes p a r aside f fit fit-ref = record {
   fit = fit;
@@ -112,7 +120,8 @@ after-refused : (a : Adapter) (c : Call) → accepted a (call c) ≡ false → a
 unfolding accepted after done
 after-refused a c nope = cond-no _ a nope
 
-module _ {full : Bool} {reads writes : ℕ → Bool} {n : ℕ} (a r : Adapter) (c : Call) (course : OnCourse full reads writes n a r) (apart : Apart reads writes a c) (patient : callTries a c ≡ false) where
+module _ {full : Bool} {reads writes : ℕ → Bool} {n : ℕ} (a r : Adapter) (c : Call) (course : OnCourse full reads writes n a r)
+    (apart : Apart reads writes a c) (patient : callTries a c ≡ false) where
   f : Finishes full a r
   f = course .finishes
 
@@ -140,15 +149,21 @@ module _ {full : Bool} {reads writes : ℕ → Bool} {n : ℕ} (a r : Adapter) (
         waits = says .waits patient;
       }
 
+  performed-fit : accepted a (call c) ≡ true → Fit (perform (actOf (a .side) c) a)
+  performed-fit ok = subst Fit (after-accepted a c ok) (fit-after a (call c) (f .fit))
+
+  reference-fit : accepted a (call c) ≡ true → Fit (perform (actOf (a .side) c) r)
+  reference-fit ok = subst Fit (after-reference ok) (fit-after r (call c) (f .fit-ref))
+
   performed-on-course : accepted a (call c) ≡ true → OnCourse full reads writes n (perform (actOf (a .side) c) a) (perform (actOf (a .side) c) r)
   performed-on-course ok =
       let p : Act = actOf (a .side) c in
       let aside : Aside p a = call-aside ok in
       record {
-        finishes = performed-finishes p a r aside f (subst Fit (after-accepted a c ok) (fit-after a (call c) (f .fit))) (subst Fit (after-reference ok) (fit-after r (call c) (f .fit-ref)));
+        finishes = performed-finishes p a r aside f (performed-fit ok) (reference-fit ok);
         within = record {
-          unread = λ w h. reads-performed p a aside w ∙ course .within .unread w h;
-          unwritten = λ w h. writes-performed p a aside w ∙ course .within .unwritten w h;
+          unread = λ w h. rw (performed-left p a aside) (performed-words p a aside .reads w ∙ course .within .unread w h);
+          unwritten = λ w h. rw (performed-left p a aside) (performed-words p a aside .writes w ∙ course .within .unwritten w h);
         };
         left = rw (performed-left p a aside) (course .left);
       }

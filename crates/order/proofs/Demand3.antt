@@ -62,7 +62,8 @@ answers-alone a (run n ∷ es) = answers-alone (after a (run n)) es
 started : (s : Adapter) (es : List Event) → Fit s → s .queued ≡ false → wordsLeft s ≡ wordsOf s →
     wordsOf s ≤ stepsIn es → AllApart (blitReads (wordsOf s) s) (blitWrites (wordsOf s) s) s es → Alike s es (blitFirst (wordsOf s) es)
 started s es fit alone left enough apart =
-    let alike : AlikeBut (s .queued) s es s (blitFirst (wordsLeft s) es) = order-of-work s es fit (rw left enough) (rw left apart) (all-patient _ _ es s alone apart) in
+    let alike : AlikeBut (s .queued) s es s (blitFirst (wordsLeft s) es) =
+    order-of-work s es fit (rw left enough) (rw left apart) (all-patient _ _ es s alone apart) in
     let told : answersBut (s .queued) s es ≡ answersBut (s .queued) s (blitFirst (wordsOf s) es) = rw left at (alike .answer-alike) in
     record {
       ends = rw left at (alike .ends);

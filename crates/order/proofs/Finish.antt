@@ -7,12 +7,12 @@ use native.Mathlib.Nat.{le-refl}
 use native.Mathlib.Omega.{arith}
 use Rattle.xosera.specs.Adapter.{Adapter}
 use Rattle.xosera.specs.Blitter.{idle, stepped, steps, wordsLeft}
-use Rattle.xosera.specs.Order.{readsNow, writesNow, blitReads, blitWrites}
+use Rattle.xosera.specs.Order.{blitReads, blitWrites}
 use Rattle.xosera.proofs.StepCases.{step-cases, stepped-idle}
 use Rattle.xosera.proofs.RangeLaws.{stepped-side, steps-side}
 use Rattle.xosera.proofs.StepLaws.{stepped-left, steps-left, over-after}
 use Rattle.order.specs.Work.{Fit}
-use Rattle.order.proofs.Tests.{or-right}
+use Rattle.order.proofs.Tests.{or-eq-false-iff}
 use Rattle.order.proofs.Fit.{fit-range, fit-stepped, fit-steps, fit-idle, fit-unqueued}
 use Rattle.order.proofs.Status.{SameBits, stepped-status, steps-status}
 
@@ -65,8 +65,8 @@ module _ (a : Adapter) (fit : Fit a) where
   unfolding blitReads blitWrites
   within-stepped {reads} {writes} within = by-engine a (λ (b : Adapter). Within reads writes b)
       (λ on. record {
-        unread = λ w h. or-right (readsNow a w) (blitReads (wordsLeft (stepped a)) (stepped a) w) (sym (ap (λ (n : ℕ). blitReads n a w) (left-running on)) ∙ within .unread w h);
-        unwritten = λ w h. or-right (writesNow a w) (blitWrites (wordsLeft (stepped a)) (stepped a) w) (sym (ap (λ (n : ℕ). blitWrites n a w) (left-running on)) ∙ within .unwritten w h);
+        unread = λ w h. (simp or-eq-false-iff at (rw (left-running on) at (within .unread w h))) .1;
+        unwritten = λ w h. (simp or-eq-false-iff at (rw (left-running on) at (within .unwritten w h))) .1;
       })
       within
 
@@ -93,7 +93,8 @@ unfolding steps
 within-steps zero a fit within = within
 within-steps (suc n) a fit within = within-steps n (stepped a) (fit-stepped a fit) (within-stepped a fit within)
 
-pub on-course-steps : {full : Bool} {reads writes : ℕ → Bool} (n m : ℕ) (a r : Adapter) → OnCourse full reads writes (n + m) a r → OnCourse full reads writes m (steps n a) r
+pub on-course-steps : {full : Bool} {reads writes : ℕ → Bool} (n m : ℕ) (a r : Adapter) →
+    OnCourse full reads writes (n + m) a r → OnCourse full reads writes m (steps n a) r
 on-course-steps n m a r h =
     let fit : Fit a = h .finishes .fit in
     record {

@@ -1,21 +1,19 @@
 -- On an adapter to which refusals 1 to 3 do not apply, steps and runs are done, a call's refusal depends on the host's side
 -- alone, and what every event leaves is again such an adapter.
 use mathlib.Core.Path.{_≡_, refl, ap, subst, _∙_}
-use mathlib.Core.Bool.{true, false, not, _&&_}
+use mathlib.Core.Bool.{true, false, not, and-eq-true-iff}
 use Prim.Native.Nat.{ℕ, zero, suc, _≤_}
-use lib.Dec.{eqb}
 use borrow.Author.Tests.{not-false}
 use Rattle.xosera.specs.Memories.{isVramLength, isXrLength}
 use Rattle.xosera.specs.Adapter.{Adapter, stateOf}
 use Rattle.xosera.specs.Blitter.{idle, stepped, steps}
-use Rattle.xosera.specs.XrSpace.{isBlitRegister}
 use Rattle.xosera.specs.Events.{Call, Event, write, read, tick, frameEnd, line, call, step, run}
 use Rattle.xosera.specs.Refusals.{inRange, badVram, badXr, badState, blitterFull, reconfigures, applying, lowest, refusal}
 use Rattle.xosera.specs.Calls.{done, after}
 use Rattle.xosera.proofs.EngineLaws.{idle-is}
 use Rattle.xosera.proofs.RangeLaws.{range-facts, after-in-range, after-vram-length, after-xr-length}
 use Rattle.order.specs.Work.{Fit, callTries}
-use Rattle.order.proofs.Tests.{clash, not-passed, and-right}
+use Rattle.order.proofs.Tests.{clash, not-passed}
 
 -- The state is in its ranges.
 pub fit-range : (a : Adapter) → Fit a → inRange (stateOf a) ≡ true
@@ -59,14 +57,15 @@ fit-steps (suc n) a fit = fit-steps n (stepped a) (fit-stepped a fit)
 -- Refusal 5 does not apply while nothing is queued, and no call tries a write that it would meet.
 pub unqueued-patient : (a : Adapter) (c : Call) → a .queued ≡ false → callTries a c ≡ false
 unfolding callTries blitterFull
-unqueued-patient a (write r odd b) q = not-passed (blitterFull a r odd) (λ t. clash (and-right (odd && eqb r 5 && isBlitRegister (a .side .host .xr .wrxaddr .0)) (a .queued) t) q)
+unqueued-patient a (write r odd b) q = not-passed (blitterFull a r odd) (λ t. clash ((simp and-eq-true-iff at t) .1) q)
 unqueued-patient a (read r odd) q = refl
 unqueued-patient a tick q = refl
 unqueued-patient a frameEnd q = refl
 unqueued-patient a line q = refl
 
 -- Two fit adapters with the same side refuse the same calls, refusal 5 aside.
-pub refused-alike : (a b : Adapter) (c : Call) → Fit a → Fit b → b .side ≡ a .side → callTries a c ≡ false → callTries b c ≡ false → refusal b (call c) ≡ refusal a (call c)
+pub refused-alike : (a b : Adapter) (c : Call) → Fit a → Fit b → b .side ≡ a .side → callTries a c ≡ false → callTries b c ≡ false →
+    refusal b (call c) ≡ refusal a (call c)
 unfolding refusal applying lowest callTries reconfigures
 refused-alike a b (write r odd x) fa fb side ta tb = cc (fa .vram, fa .xr, fa .state, fb .vram, fb .xr, fb .state, side, ta, tb)
 refused-alike a b (read r odd) fa fb side ta tb = cc (fa .vram, fa .xr, fa .state, fb .vram, fb .xr, fb .state)

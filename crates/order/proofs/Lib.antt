@@ -1,8 +1,8 @@
 -- Demand 3: the order of blit steps and host accesses does not matter.
 pub mod Tests
 pub mod Stores
-pub mod StoreAcross
 pub mod Footprint
+pub mod StoreAcross
 pub mod Acts
 pub mod Fit
 pub mod Status
@@ -12,3 +12,5 @@ pub mod Answers
 pub mod Lists
 pub mod OrderOfWork
 pub mod Demand3
+pub mod ApartTest
+pub mod Witness

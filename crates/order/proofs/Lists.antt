@@ -41,13 +41,15 @@ module _ {full : Bool} {reads writes : ℕ → Bool} where
   run-on-course : (n m : ℕ) (a r : Adapter) → OnCourse full reads writes (n + m) a r → OnCourse full reads writes m (after a (run n)) r
   run-on-course n m a r h = rw (after-run a n (h .finishes .fit)) (on-course-steps n m a r h)
 
-  call-answer : (n : ℕ) (a r : Adapter) (c : Call) → OnCourse full reads writes n a r → Apart reads writes a c → callTries a c ≡ false → answered full a c ≡ answered full r c
+  call-answer : (n : ℕ) (a r : Adapter) (c : Call) → OnCourse full reads writes n a r → Apart reads writes a c → callTries a c ≡ false →
+      answered full a c ≡ answered full r c
   unfolding answer answered
   call-answer n a r c h apart patient =
       let e : refusal r (call c) ≡ refusal a (call c) = call-refused-alike a r c h apart patient in
       λ i. record { refusal = sym e i; value = sym (value-alike a r (h .finishes) c e) i }
 
-  pub in-any-order : (es : List Event) (a r : Adapter) → OnCourse full reads writes (stepsIn es) a r → AllApart reads writes a es → AllPatient a es → AlikeBut full a es r (withoutSteps es)
+  pub in-any-order : (es : List Event) (a r : Adapter) → OnCourse full reads writes (stepsIn es) a r → AllApart reads writes a es → AllPatient a es →
+      AlikeBut full a es r (withoutSteps es)
   unfolding stepsIn withoutSteps afterAll answersBut
   in-any-order [] a r h apart patient = record { ends = none-left a r (h .finishes) (h .left); answer-alike = refl }
   in-any-order (call c ∷ es) a r h apart patient =

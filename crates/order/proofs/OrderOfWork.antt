@@ -17,12 +17,15 @@ use Rattle.order.proofs.Lists.{in-any-order}
 ends-after-steps : (n : ℕ) (a : Adapter) (fs : List Event) → Fit a → afterAll a (replicate n step ++ fs) ≡ afterAll (steps n a) fs
 unfolding afterAll steps
 ends-after-steps zero a fs fit = refl
-ends-after-steps (suc n) a fs fit = ap (λ (b : Adapter). afterAll b (replicate n step ++ fs)) (after-step a fit) ∙ ends-after-steps n (stepped a) fs (fit-stepped a fit)
+ends-after-steps (suc n) a fs fit =
+    ap (λ (b : Adapter). afterAll b (replicate n step ++ fs)) (after-step a fit) ∙ ends-after-steps n (stepped a) fs (fit-stepped a fit)
 
-answers-after-steps : (full : Bool) (n : ℕ) (a : Adapter) (fs : List Event) → Fit a → answersBut full a (replicate n step ++ fs) ≡ answersBut full (steps n a) fs
+answers-after-steps : (full : Bool) (n : ℕ) (a : Adapter) (fs : List Event) → Fit a →
+    answersBut full a (replicate n step ++ fs) ≡ answersBut full (steps n a) fs
 unfolding answersBut steps
 answers-after-steps full zero a fs fit = refl
-answers-after-steps full (suc n) a fs fit = ap (λ (b : Adapter). answersBut full b (replicate n step ++ fs)) (after-step a fit) ∙ answers-after-steps full n (stepped a) fs (fit-stepped a fit)
+answers-after-steps full (suc n) a fs fit =
+    ap (λ (b : Adapter). answersBut full b (replicate n step ++ fs)) (after-step a fit) ∙ answers-after-steps full n (stepped a) fs (fit-stepped a fit)
 
 pub order-of-work : OrderOfWork
 unfolding blitFirst

@@ -1,22 +1,21 @@
 -- A store to a word that the blit neither reads nor writes moves across blit steps: the steps fetch the same source words, so
 -- they draw the same, and the two stores go to different words.
 use mathlib.Core.Path.{_≡_, refl, sym, ap, ap₂, _∙_}
-use mathlib.Core.Bool.{Bool, true, false, cond, not, _&&_, _||_}
+use mathlib.Core.Bool.{Bool, true, false, cond, not, _||_}
 use mathlib.Core.List.{List}
 use Prim.Native.Nat.{ℕ, zero, suc, _%_}
-use lib.Dec.{eqb}
 use borrow.Author.Tests.{eq-eqb}
 use Rattle.xosera.specs.Words.{shifted}
 use Rattle.xosera.specs.Memories.{place, word, Store, stored}
-use Rattle.xosera.specs.Adapter.{Side, Adapter}
+use Rattle.xosera.specs.Adapter.{Adapter}
 use Rattle.xosera.specs.Blitter.{isConstant, fetched, sourced, drawing, drawn, lastStep, nextKept, next, launched, succeeding, stepped, steps}
 use Rattle.xosera.specs.Order.{readsNow, writesNow, blitReads, blitWrites}
 use Rattle.xosera.specs.declared.Engine.{Engine}
 use Rattle.xosera.specs.declared.BlitRegs.{BlitRegs}
-use Rattle.xosera.proofs.Branches.{cond-yes}
 use Rattle.xosera.proofs.StepCases.{stepped-idle}
-use Rattle.xosera.proofs.RangeLaws.{stepped-side, stepped-vram-length}
-use Rattle.order.proofs.Tests.{clash, not-passed, and-both, or-left, or-right}
+use Rattle.xosera.proofs.RangeLaws.{stepped-side}
+use Rattle.order.proofs.Tests.{clash, not-passed, and-both, or-eq-false-iff}
+use Rattle.order.proofs.Footprint.{stepped-engine, stepped-queued, stepped-vram, writes-running, place-stepped}
 use Rattle.order.proofs.Stores.{touches, stored-place, stored-word, stored-swap, Separate}
 
 -- The source word of an engine's next step is not the one that a store touches.
@@ -49,20 +48,6 @@ module _ (k : Store) (e : Engine) (v : List ℕ) (unfetched : Unfetched k e v) w
   unfolding drawn
   drawn-across apart = rw drawing-same (sym (stored-swap k (drawing e v) v apart))
 
--- A step of a running engine, part by part.
-module _ (a : Adapter) (on : a .engine .running ≡ true) where
-  pub stepped-engine : stepped a .engine ≡ cond (lastStep (a .engine)) (succeeding (a .queued) (a .side .blit)) (next (a .engine) (a .vram))
-  unfolding stepped
-  stepped-engine = ap (λ (x : Adapter). x .engine) (cond-yes _ a on)
-
-  pub stepped-queued : stepped a .queued ≡ cond (lastStep (a .engine)) false (a .queued)
-  unfolding stepped
-  stepped-queued = ap (λ (x : Adapter). x .queued) (cond-yes _ a on)
-
-  pub stepped-vram : stepped a .vram ≡ drawn (a .engine) (a .vram)
-  unfolding stepped
-  stepped-vram = ap (λ (x : Adapter). x .vram) (cond-yes _ a on)
-
 -- b is a after a store: its blits are the same, the waiting registers of a queued one included.
 pub record Beside (k : Store) (a b : Adapter) : Type 0 where
   pub engine : b .engine ≡ a .engine
@@ -84,10 +69,6 @@ still-queued : (last q : Bool) → cond last false q ≡ true → q ≡ true
 still-queued true q h = absurd (clash h refl)
 still-queued false q h = h
 
-writes-off : (a : Adapter) (w : ℕ) → a .engine .running ≡ false → writesNow a w ≡ false
-unfolding writesNow
-writes-off a w off = ap (λ (r : Bool). r && not (eqb (drawing (a .engine) (a .vram) .mask) 0) && eqb (place (a .vram) (a .engine .regs .dstd)) w) off
-
 module _ (k : Store) (a b : Adapter) (beside : Beside k a b) (free : Free k a) where
   runs-alike : b .engine .running ≡ a .engine .running
   runs-alike = ap (λ (e : Engine). e .running) (beside .engine)
@@ -95,31 +76,25 @@ module _ (k : Store) (a b : Adapter) (beside : Beside k a b) (free : Free k a) w
   module _ (on : a .engine .running ≡ true) where
     unfetched : Unfetched k (a .engine) (a .vram)
     unfolding readsNow
-    unfetched varies = not-passed (touches k (a .vram) (place (a .vram) (a .engine .regs .srcs)))
-        (λ t. clash
-        (and-both (and-both on (ap not varies)) (eq-eqb (place (a .vram) (a .engine .regs .srcs)) (place (a .vram) (a .engine .regs .srcs)) refl))
-        (free .unread (place (a .vram) (a .engine .regs .srcs)) t))
+    unfetched varies =
+        let at : ℕ = place (a .vram) (a .engine .regs .srcs) in
+        not-passed (touches k (a .vram) at) (λ t. clash (and-both (and-both on (ap not varies)) (eq-eqb at at refl)) (free .unread at t))
 
     separate : Separate k (drawing (a .engine) (a .vram)) (a .vram)
-    unfolding writesNow touches drawing
-    separate w t =
-        sym (ap (λ (r : Bool). r && not (eqb (drawing (a .engine) (a .vram) .mask) 0) && eqb (place (a .vram) (a .engine .regs .dstd)) w) on)
-        ∙ free .unwritten w t
+    separate w t = sym (writes-running a w on) ∙ free .unwritten w t
 
     across-running : Beside k (stepped a) (stepped b)
     across-running =
         let on' : b .engine .running ≡ true = runs-alike ∙ on in
-        let s : succeeding (a .queued) (b .side .blit) ≡ succeeding (a .queued) (a .side .blit) = succeeding-same (a .queued) (a .side .blit) (b .side .blit) (beside .waiting) in
+        let launch : succeeding (a .queued) (b .side .blit) ≡ succeeding (a .queued) (a .side .blit) =
+        succeeding-same (a .queued) (a .side .blit) (b .side .blit) (beside .waiting) in
         record {
           engine = cc (stepped-engine a on, stepped-engine b on', beside .engine, beside .queued, beside .vram, next-same k (a .engine) (a .vram) unfetched);
           queued = cc (stepped-queued a on, stepped-queued b on', beside .engine, beside .queued);
-          waiting = λ q. ap (λ (x : Side). x .blit) (stepped-side b) ∙ beside .waiting (still-queued (lastStep (a .engine)) (a .queued) (sym (stepped-queued a on) ∙ q)) ∙ ap (λ (x : Side). x .blit) (sym (stepped-side a));
+          waiting = λ q.
+              rw (stepped-side a, stepped-side b) (beside .waiting (still-queued (lastStep (a .engine)) (a .queued) (sym (stepped-queued a on) ∙ q)));
           vram = cc (stepped-vram a on, stepped-vram b on', beside .engine, beside .vram, drawn-across k (a .engine) (a .vram) unfetched separate);
         }
-
-    writes-running : (w : ℕ) → writesNow b w ≡ writesNow a w
-    unfolding writesNow
-    writes-running w = cc (beside .engine, beside .vram, stored-place k (a .vram) (a .engine .regs .dstd), drawing-same k (a .engine) (a .vram) unfetched)
 
   -- One step keeps a store beside the blit, and reads and writes the same words.
   across-step : Beside k (stepped a) (stepped b)
@@ -134,11 +109,12 @@ module _ (k : Store) (a b : Adapter) (beside : Beside k a b) (free : Free k a) w
   reads-now-same w = cc (beside .engine, beside .vram, stored-place k (a .vram) (a .engine .regs .srcs))
 
   writes-now-same : (w : ℕ) → writesNow b w ≡ writesNow a w
+  unfolding writesNow
   writes-now-same w = go (a .engine .running) refl
     where
       go : (r : Bool) → a .engine .running ≡ r → writesNow b w ≡ writesNow a w
-      go true on = writes-running on w
-      go false off = writes-off b w (runs-alike ∙ off) ∙ sym (writes-off a w off)
+      go true on = cc (beside .engine, beside .vram, stored-place k (a .vram) (a .engine .regs .dstd), drawing-same k (a .engine) (a .vram) (unfetched on))
+      go false off = cc (off, runs-alike)
 
 -- The next n steps read and write no word that the store touches.
 pub record Clear (n : ℕ) (k : Store) (a : Adapter) : Type 0 where
@@ -148,19 +124,19 @@ pub record Clear (n : ℕ) (k : Store) (a : Adapter) : Type 0 where
 clear-now : (n : ℕ) (k : Store) (a : Adapter) → Clear (suc n) k a → Free k a
 unfolding blitReads blitWrites
 clear-now n k a clear = record {
-  unread = λ w t. or-left (readsNow a w) (blitReads n (stepped a) w) (clear .unread w t);
-  unwritten = λ w t. or-left (writesNow a w) (blitWrites n (stepped a) w) (clear .unwritten w t);
+  unread = λ w t. (simp or-eq-false-iff at (clear .unread w t)) .0;
+  unwritten = λ w t. (simp or-eq-false-iff at (clear .unwritten w t)) .0;
 }
 
 touches-stepped : (k : Store) (a : Adapter) (w : ℕ) → touches k (stepped a .vram) w ≡ touches k (a .vram) w
-unfolding touches place
-touches-stepped k a w = rw (stepped-vram-length a)
+unfolding touches
+touches-stepped k a w = rw (place-stepped a (k .addr))
 
 clear-later : (n : ℕ) (k : Store) (a : Adapter) → Clear (suc n) k a → Clear n k (stepped a)
 unfolding blitReads blitWrites
 clear-later n k a clear = record {
-  unread = λ w t. or-right (readsNow a w) (blitReads n (stepped a) w) (clear .unread w (sym (touches-stepped k a w) ∙ t));
-  unwritten = λ w t. or-right (writesNow a w) (blitWrites n (stepped a) w) (clear .unwritten w (sym (touches-stepped k a w) ∙ t));
+  unread = λ w t. (simp or-eq-false-iff at (clear .unread w (sym (touches-stepped k a w) ∙ t))) .1;
+  unwritten = λ w t. (simp or-eq-false-iff at (clear .unwritten w (sym (touches-stepped k a w) ∙ t))) .1;
 }
 
 -- n steps keep a store beside the blit.
@@ -171,16 +147,17 @@ across (suc n) k a b beside clear =
     across n k (stepped a) (stepped b) (across-step k a b beside (clear-now n k a clear)) (clear-later n k a clear)
 
 -- They read and write the same words.
-pub reads-same : (n : ℕ) (k : Store) (a b : Adapter) → Beside k a b → Clear n k a → (w : ℕ) → blitReads n b w ≡ blitReads n a w
-unfolding blitReads
-reads-same zero k a b beside clear w = refl
-reads-same (suc n) k a b beside clear w =
-    let free : Free k a = clear-now n k a clear in
-    ap₂ _||_ (reads-now-same k a b beside free w) (reads-same n k (stepped a) (stepped b) (across-step k a b beside free) (clear-later n k a clear) w)
+pub record SameWords (n : ℕ) (a b : Adapter) : Type 0 where
+  pub reads : (w : ℕ) → blitReads n b w ≡ blitReads n a w
+  pub writes : (w : ℕ) → blitWrites n b w ≡ blitWrites n a w
 
-pub writes-same : (n : ℕ) (k : Store) (a b : Adapter) → Beside k a b → Clear n k a → (w : ℕ) → blitWrites n b w ≡ blitWrites n a w
-unfolding blitWrites
-writes-same zero k a b beside clear w = refl
-writes-same (suc n) k a b beside clear w =
+pub same-words : (n : ℕ) (k : Store) (a b : Adapter) → Beside k a b → Clear n k a → SameWords n a b
+unfolding blitReads blitWrites
+same-words zero k a b beside clear = record { reads = λ w. refl; writes = λ w. refl }
+same-words (suc n) k a b beside clear =
     let free : Free k a = clear-now n k a clear in
-    ap₂ _||_ (writes-now-same k a b beside free w) (writes-same n k (stepped a) (stepped b) (across-step k a b beside free) (clear-later n k a clear) w)
+    let later : SameWords n (stepped a) (stepped b) = same-words n k (stepped a) (stepped b) (across-step k a b beside free) (clear-later n k a clear) in
+    record {
+      reads = λ w. ap₂ _||_ (reads-now-same k a b beside free w) (later .reads w);
+      writes = λ w. ap₂ _||_ (writes-now-same k a b beside free w) (later .writes w);
+    }

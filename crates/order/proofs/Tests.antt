@@ -1,5 +1,6 @@
 -- Tests joined by and, or: what their value says of the parts.
 use mathlib.Core.Path.{_≡_, refl, sym, _∙_}
+use mathlib.Core.Logic.{_↔_}
 use mathlib.Core.Bool.{Bool, true, false, _&&_, _||_, true≢false}
 
 -- A test cannot both pass and fail.
@@ -11,21 +12,10 @@ pub not-passed : (b : Bool) → (b ≡ true → ⊥) → b ≡ false
 not-passed true h = absurd (h refl)
 not-passed false h = refl
 
-pub and-left : (x y : Bool) → x && y ≡ true → x ≡ true
-and-left true y h = refl
-and-left false y h = h
-
-pub and-right : (x y : Bool) → x && y ≡ true → y ≡ true
-and-right true y h = h
-and-right false y h = absurd (true≢false (sym h))
-
 pub and-both : {x y : Bool} → x ≡ true → y ≡ true → x && y ≡ true
 and-both p q = rw (p, q)
 
-pub or-left : (x y : Bool) → x || y ≡ false → x ≡ false
-or-left true y h = h
-or-left false y h = refl
-
-pub or-right : (x y : Bool) → x || y ≡ false → y ≡ false
-or-right true y h = absurd (true≢false h)
-or-right false y h = h
+-- A choice of two tests fails when both do.
+pub or-eq-false-iff : (x y : Bool) → (x || y ≡ false) ↔ ((x ≡ false) × (y ≡ false))
+or-eq-false-iff true y = (λ h. absurd (true≢false h), λ k. k .0)
+or-eq-false-iff false y = (λ h. (refl, h), λ k. k .1)

@@ -1,2 +1,3 @@
 -- The order of things, stated over the definitions of crate xosera.
 pub mod Work
+pub mod Witness

@@ -3,10 +3,10 @@ use mathlib.Core.Path.{_≡_, refl, sym, _∙_}
 use mathlib.Core.Bool.{true, false}
 use native.Mathlib.Omega.{arith}
 use Rattle.xosera.specs.XrSpace.{within, registerRead}
-use Rattle.memory.proofs.Parts.{within-bounds, unlisted}
+use Rattle.xr_space.proofs.Parts.{within-bounds, unlisted}
 use borrow.Author.Needs.{needs}
-use Rattle.memory.proofs.register_read.Statement.{statement}
-use Rattle.memory.proofs.register_read.Tie as tie
+use Rattle.xr_space.proofs.register_read.Statement.{statement}
+use Rattle.xr_space.proofs.register_read.Tie as tie
 
 within-requires : tie.Need-within-requires
 within-requires c κs = search needs

@@ -3,8 +3,8 @@ use mathlib.Core.Path.{_≡_, refl, sym, _∙_}
 use borrow.Author.Tests.{lt-leb, le-leb}
 use Rattle.xosera.specs.XrSpace.{within}
 use borrow.Author.Needs.{needs}
-use Rattle.memory.proofs.within.Statement.{statement}
-use Rattle.memory.proofs.within.Tie as tie
+use Rattle.xr_space.proofs.within.Statement.{statement}
+use Rattle.xr_space.proofs.within.Tie as tie
 
 returns : tie.Need-returns
 unfolding within

@@ -4,10 +4,10 @@ use Prim.Native.Nat.{_-_}
 use native.Mathlib.Omega.{arith}
 use borrow.Rule.Slice.PartMut.{set-mid-at, mid-len}
 use Rattle.xosera.specs.XrSpace.{xrMemoryWrite}
-use Rattle.memory.proofs.Parts.{within-bounds}
+use Rattle.xr_space.proofs.Parts.{within-bounds}
 use borrow.Author.Needs.{needs}
-use Rattle.memory.proofs.xr_store.Statement.{statement}
-use Rattle.memory.proofs.xr_store.Tie as tie
+use Rattle.xr_space.proofs.xr_store.Statement.{statement}
+use Rattle.xr_space.proofs.xr_store.Tie as tie
 
 within-requires : tie.Need-within-requires
 within-requires c κs = search needs
@@ -34,23 +34,23 @@ returns c = rw (sym (c .before .within .ensures) ∙ c .if1 .taken)
 within-requires-2 : tie.Need-within-requires-2
 within-requires-2 c κs = search needs
 
-sub-put : tie.Need-sub-put
-sub-put c = search needs
+sub-put-word : tie.Need-sub-put-word
+sub-put-word c = search needs
 
-part-put-start : tie.Need-part-put-start
-part-put-start c = search needs
+part-put-word-start : tie.Need-part-put-word-start
+part-put-word-start c = search needs
 
-part-put-end : tie.Need-part-put-end
-part-put-end c = search needs
+part-put-word-end : tie.Need-part-put-word-end
+part-put-word-end c = search needs
 
-sub-put-2 : tie.Need-sub-put-2
-sub-put-2 c = within-bounds 0x8000 512 _ (sym (c .before .before .within2 .ensures) ∙ c .before .if2 .taken) .0
+sub-put-word-2 : tie.Need-sub-put-word-2
+sub-put-word-2 c = within-bounds 0x8000 512 _ (sym (c .before .before .within2 .ensures) ∙ c .before .if2 .taken) .0
 
-cast-put : tie.Need-cast-put
-cast-put c = search needs
+cast-put-word : tie.Need-cast-put-word
+cast-put-word c = search needs
 
-put-requires : tie.Need-put-requires
-put-requires c κs =
+put-word-requires : tie.Need-put-word-requires
+put-word-requires c κs =
     let xr = c .before .before .before .before .before .before .args .xr .now in
     omega (arith, mid-len 5120 5632 xr (omega (arith, c .before .before .before .before .before .before .pre)), within-bounds 0x8000 512 _ (sym (c .before .before .within2 .ensures) ∙ c .before .if2 .taken))
 
@@ -61,7 +61,7 @@ returns-2 : tie.Need-returns-2
 unfolding xrMemoryWrite
 returns-2 c =
     let a = c .before .before .before .before .before .before .before .before .before .args in
-    rw (c .before .before .put .ensures, (sym (c .before .before .before .before .before .before .before .within .ensures) ∙ c .before .before .before .before .before .before .if1 .left), (sym (c .before .before .before .before .before .within2 .ensures) ∙ c .before .before .before .before .if2 .taken))
+    rw (c .before .before .put-word .ensures, (sym (c .before .before .before .before .before .before .before .within .ensures) ∙ c .before .before .before .before .before .before .if1 .left), (sym (c .before .before .before .before .before .within2 .ensures) ∙ c .before .before .before .before .if2 .taken))
     (set-mid-at 5120 512 (a .a .0 - 0x8000) (a .xr .now) (a .w) (omega (arith, mid-len 5120 5632 (a .xr .now) (omega (arith, c .before .before .before .before .before .before .before .before .before .pre)), within-bounds 0x8000 512 _ (sym (c .before .before .before .before .before .within2 .ensures) ∙ c .before .before .before .before .if2 .taken))))
 
 within-requires-3 : tie.Need-within-requires-3
@@ -105,12 +105,12 @@ xr-store-spec =
     same-length
     returns
     within-requires-2
-    sub-put
-    part-put-start
-    part-put-end
-    sub-put-2
-    cast-put
-    put-requires
+    sub-put-word
+    part-put-word-start
+    part-put-word-end
+    sub-put-word-2
+    cast-put-word
+    put-word-requires
     same-length-2
     returns-2
     within-requires-3

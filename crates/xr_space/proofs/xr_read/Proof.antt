@@ -2,10 +2,10 @@
 use mathlib.Core.Path.{sym, _∙_}
 use native.Mathlib.Omega.{arith}
 use Rattle.xosera.specs.XrSpace.{xrRead}
-use Rattle.memory.proofs.Parts.{within-bounds}
+use Rattle.xr_space.proofs.Parts.{within-bounds}
 use borrow.Author.Needs.{needs}
-use Rattle.memory.proofs.xr_read.Statement.{statement}
-use Rattle.memory.proofs.xr_read.Tie as tie
+use Rattle.xr_space.proofs.xr_read.Statement.{statement}
+use Rattle.xr_space.proofs.xr_read.Tie as tie
 
 within-requires : tie.Need-within-requires
 within-requires c κs = search needs

@@ -3,8 +3,8 @@ use mathlib.Core.Path.{_≡_, refl, sym, _∙_}
 use borrow.Author.Tests.{eq-eqb, ne-eqb}
 use Rattle.xosera.specs.XrSpace.{playfieldRead}
 use borrow.Author.Needs.{needs}
-use Rattle.memory.proofs.playfield_read.Statement.{statement}
-use Rattle.memory.proofs.playfield_read.Tie as tie
+use Rattle.xr_space.proofs.playfield_read.Statement.{statement}
+use Rattle.xr_space.proofs.playfield_read.Tie as tie
 
 returns : tie.Need-returns
 unfolding playfieldRead

@@ -1,0 +1,2 @@
+-- Laws of the register tables that belong to no one function.
+pub mod Tables

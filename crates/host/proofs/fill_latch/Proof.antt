@@ -1,0 +1,16 @@
+-- The code is the definition.
+use mathlib.Core.Path.{refl}
+use Rattle.xosera.specs.HostBytes.{latched}
+use borrow.Author.Needs.{needs}
+use Rattle.host.proofs.fill_latch.Statement.{statement}
+use Rattle.host.proofs.fill_latch.Tie as tie
+
+element-write-next : tie.Need-element-write-next
+element-write-next c = search needs
+
+returns : tie.Need-returns
+unfolding latched
+returns c = refl
+
+pub fill-latch-spec : {M : Type 1} → statement M
+fill-latch-spec = tie.close (tie.spec element-write-next returns)

@@ -1,0 +1,53 @@
+-- One start and one list of events that meet all that demand 3 asks, with stores, loads and refused accesses between the blit's
+-- steps: the demand speaks of something.
+use mathlib.Core.Path.{_≡_}
+use mathlib.Core.Bool.{true}
+use mathlib.Core.List.{List, [], _∷_, _++_}
+use Prim.Native.Nat.{_≤_}
+use Rattle.xosera.specs.Adapter.{Adapter}
+use Rattle.xosera.specs.Blitter.{wordsLeft}
+use Rattle.xosera.specs.Events.{Event, write, tick, frameEnd, line, call, step, run}
+use Rattle.xosera.specs.Calls.{after}
+use Rattle.xosera.specs.Order.{Starts, startWith, wordsOf, stepsIn, afterAll, blitReads, blitWrites, AllApart}
+use Rattle.xosera.specs.BenchTable.{setWord, setXr, readWord, bench, seen, told}
+use Rattle.order.specs.Work.{Fit, AllPatient}
+
+-- 2 lines of 3 words from 0x10 to 0x20, all registers but WORDS set: the start writes 2 there.
+abbrev pub ready : Adapter
+ready =
+    afterAll (bench (0x1234 ∷ 0x5678 ∷ 0x9ABC ∷ 0xDEF0 ∷ 0x1111 ∷ 0x2222 ∷ []))
+    (setXr 0x44 0x10 ++ setXr 0x46 0x20 ++ setWord 5 0xFF00 ++ setWord 5 1)
+
+abbrev pub begun : Adapter
+begun = after ready (startWith 2)
+
+-- A store at 0x80 and loads from there between the blit's steps, with a refused write, a tick, a frame end and a line question.
+abbrev pub between : List Event
+between =
+    step ∷ setWord 9 0x80
+    ++ step ∷ setWord 10 0xBEEF
+    ++ run 2 ∷ setWord 7 0x80
+    ++ call (write 16 true 0) ∷ readWord 10
+    ++ call tick ∷ call frameEnd ∷ call line ∷ run 9 ∷ setWord 1 0x4040
+    ++ step ∷ readWord 11
+
+pub record Witness : Type 0 where
+  pub starts : Starts ready 2
+  pub enough : wordsOf begun ≤ stepsIn between
+  pub apart : AllApart (blitReads (wordsOf begun) begun) (blitWrites (wordsOf begun) begun) begun between
+  -- The blit draws its six words, the store beside it is made, and the loaded word is read.
+  pub drawn : seen 0x20 6 (afterAll begun between) ≡ 0x1234 ∷ 0x5678 ∷ 0x9ABC ∷ 0xDEF0 ∷ 0x1111 ∷ 0x2222 ∷ []
+  pub stored : seen 0x80 1 (afterAll begun between) ≡ 0xBEEF ∷ []
+  pub read-back : told (afterAll begun between) (readWord 10) ≡ 0xBE ∷ 0xEF ∷ []
+
+-- The same with a second blit of 2 lines of 2 words, to 0x40, queued behind the first.
+abbrev pub queuedUp : Adapter
+queuedUp = afterAll begun (setXr 0x46 0x40 ++ setXr 0x49 1)
+
+pub record QueuedWitness : Type 0 where
+  pub fit : Fit queuedUp
+  pub full : queuedUp .queued ≡ true
+  pub enough : wordsLeft queuedUp ≤ stepsIn between
+  pub apart : AllApart (blitReads (wordsLeft queuedUp) queuedUp) (blitWrites (wordsLeft queuedUp) queuedUp) queuedUp between
+  pub patient : AllPatient queuedUp between
+  pub drawn : seen 0x40 4 (afterAll queuedUp between) ≡ 0x1234 ∷ 0x5678 ∷ 0x9ABC ∷ 0xDEF0 ∷ []
