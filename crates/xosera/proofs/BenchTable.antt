@@ -33,11 +33,11 @@ same-equal (x ∷ xs) [] t = absurd t
 same-equal (x ∷ xs) (y ∷ ys) t =
     ap₂ _∷_ (eqb→eq x y (both (eqb x y) (same xs ys) t .0)) (same-equal xs ys (both (eqb x y) (same xs ys) t .1))
 
-abbrev allSame : List Row → Bool
+abbrev pub allSame : List Row → Bool
 allSame [] = true
 allSame (r ∷ rows) = same (r .gives) (r .should) && allSame rows
 
-all-equal : (rows : List Row) → T (allSame rows) → map (λ (r : Row). r .gives) rows ≡ map (λ (r : Row). r .should) rows
+pub all-equal : (rows : List Row) → T (allSame rows) → map (λ (r : Row). r .gives) rows ≡ map (λ (r : Row). r .should) rows
 all-equal [] t = refl
 all-equal (r ∷ rows) t =
     let h : T (same (r .gives) (r .should)) × T (allSame rows) = both (same (r .gives) (r .should)) (allSame rows) t in

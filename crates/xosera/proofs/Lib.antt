@@ -1,5 +1,6 @@
--- What is proved of the definitions: the bench table, and the laws that the layers above cite.
+-- What is proved of the definitions: the bench table, further examples, and the laws that the layers above cite.
 pub mod BenchTable
+pub mod Examples
 pub mod Branches
 pub mod MaskLaws
 pub mod EngineLaws
