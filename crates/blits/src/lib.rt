@@ -1,7 +1,6 @@
 // Blit steps on the whole state: the running blit, its end, and the queued one after it.
 use xosera::Engine;
 use xosera::State;
-
 ghost use mathlib.Core.Path.{_≡_};
 ghost use mathlib.Core.Bool.{true, false};
 ghost use mathlib.Core.List.{List};

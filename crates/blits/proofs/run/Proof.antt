@@ -1,25 +1,25 @@
+-- The running blit, then what is left of the steps on the queued one.
+use mathlib.Core.Path.{ap, _∙_}
+use Rattle.blitter.proofs.Runs.{long-enough}
+use Rattle.blits.proofs.TwoBlits.{run-reached, run-fewer, run-count}
 use borrow.Author.Needs.{needs}
 use Rattle.blits.proofs.run.Statement.{statement}
 use Rattle.blits.proofs.run.Tie as tie
-use Rattle.blits.proofs.run.Reads as reads
-use Rattle.blits.proofs.run.Lts as lts
-use Rattle.blits.proofs.run_one.Reads as run-one-reads
 
--- src/lib.rt:95:9
 run-one-requires : tie.Need-run-one-requires
 run-one-requires c κs = search needs
 
--- src/lib.rt:98:5
 run-one-requires-2 : tie.Need-run-one-requires-2
-run-one-requires-2 c κs = ?
+run-one-requires-2 c κs = (long-enough (c .before .before .before .before .run-one .ensures .vram-length) (c .before .before .before .before .before .before .before .pre .0), c .before .before .before .before .run-one .ensures .ready)
 
--- src/lib.rt:89:1
 same-length : tie.Need-same-length
 same-length c = search needs
 
--- src/lib.rt:89:1
 returns : tie.Need-returns
-returns c = ?
+returns c =
+    let one = c .before .before .before .before .before .before .before .run-one .ensures in
+    let two = c .before .before .run-one2 .ensures in
+    (λ x. run-reached one two x, λ x. (run-fewer one two x, run-count one two x))
 
 pub run-spec : {M : Type 1} → statement M
 run-spec = tie.close (tie.spec run-one-requires run-one-requires-2 same-length returns)

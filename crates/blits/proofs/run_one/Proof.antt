@@ -1,43 +1,39 @@
+-- Nothing on an idle engine, up to the blit's end, or all n.
+use mathlib.Core.Path.{_≡_, sym, ap, subst, _∙_}
+use borrow.Author.Tests.{not-true, not-false}
+use Rattle.xosera.specs.declared.State.{State}
+use Rattle.blits.specs.declared.Part.{Part}
+use Rattle.blits.specs.Work.{OneBlit}
+use Rattle.blits.proofs.OneBlit.{one-idle, one-over, one-going}
 use borrow.Author.Needs.{needs}
 use Rattle.blits.proofs.run_one.Statement.{statement}
 use Rattle.blits.proofs.run_one.Tie as tie
-use Rattle.blits.proofs.run_one.Reads as reads
-use Rattle.blits.proofs.run_one.Lts as lts
-use Rattle.blits.proofs.end_blit.Reads as end-blit-reads
-use Rattle.blits.proofs.with_engine.Reads as with-engine-reads
-use Rattle.blitter.proofs.run_blit.Reads as run-blit-reads
 
--- src/lib.rt:73:9
 returns : tie.Need-returns
-returns c = ?
+returns c = one-idle (c .before .before .before .before .args .s) (c .before .before .before .before .args .vram .now) (c .before .before .before .before .args .n) (c .before .before .before .before .pre .1) (not-true (c .before .before .before .before .args .s .engine .running) (c .if1 .taken))
 
--- src/lib.rt:75:9
 run-blit-requires : tie.Need-run-blit-requires
-run-blit-requires c κs = ?
+run-blit-requires c κs = (c .before .before .before .before .before .pre .0, record { running = not-false (c .before .before .before .before .before .args .s .engine .running) (c .before .if1 .left); in-range = c .before .before .before .before .before .pre .1 .engine })
 
--- src/lib.rt:77:13
 end-blit-requires : tie.Need-end-blit-requires
 end-blit-requires c κs = search needs
 
--- src/lib.rt:78:9
 same-length : tie.Need-same-length
 same-length c = search needs
 
--- src/lib.rt:78:9
 returns-2 : tie.Need-returns-2
-returns-2 c = ?
+returns-2 c =
+    rw (c .end-blit .ensures) (one-over (c .before .before .before .before .before .before .before .before .before .before .args .s) (c .before .before .before .before .before .before .before .before .before .before .args .vram .now) (c .before .before .before .before .before .before .before .before .before .before .args .n) (c .before .before .before .before .run-blit .ensures .over (c .before .if2 .taken)))
 
--- src/lib.rt:84:9
 with-engine-requires : tie.Need-with-engine-requires
 with-engine-requires c κs = search needs
 
--- src/lib.rt:66:1
 same-length-2 : tie.Need-same-length-2
 same-length-2 c = search needs
 
--- src/lib.rt:66:1
 returns-3 : tie.Need-returns-3
-returns-3 c = ?
+returns-3 c =
+    rw (c .with-engine .ensures) (one-going (c .before .before .before .before .before .before .before .before .before .before .before .args .s) (c .before .before .before .before .before .before .before .before .before .before .before .args .vram .now) (c .before .before .before .before .before .before .before .before .before .before .before .args .n) (c .before .before .before .before .before .run-blit .ensures .going (c .before .before .if2 .left)))
 
 pub run-one-spec : {M : Type 1} → statement M
 run-one-spec =

@@ -1,53 +1,46 @@
+-- Nothing, the last word of a blit, or another of its words.
+use mathlib.Core.Path.{_≡_, sym, ap, subst, _∙_}
+use borrow.Author.Tests.{not-true, not-false}
+use Rattle.xosera.specs.Adapter.{adapter}
+use Rattle.xosera.proofs.StepCases.{stepped-idle, stepped-last, stepped-on}
+use Rattle.blitter.specs.Progress.{advanced}
+use Rattle.blitter.proofs.Words.{next-is}
 use borrow.Author.Needs.{needs}
 use Rattle.blits.proofs.step.Statement.{statement}
 use Rattle.blits.proofs.step.Tie as tie
-use Rattle.blits.proofs.step.Reads as reads
-use Rattle.blits.proofs.step.Lts as lts
-use Rattle.blits.proofs.end_blit.Reads as end-blit-reads
-use Rattle.blits.proofs.with_engine.Reads as with-engine-reads
-use Rattle.blitter.proofs.advance.Reads as advance-reads
-use Rattle.blitter.proofs.draw.Reads as draw-reads
-use Rattle.blitter.proofs.last_step.Reads as last-step-reads
 
--- src/lib.rt:56:9
 returns : tie.Need-returns
-returns c = ?
+returns c = λ x. sym (stepped-idle (adapter (c .before .before .before .before .args .s) (c .before .before .before .before .args .vram .now) x) (not-true (c .before .before .before .before .args .s .engine .running) (c .if1 .taken)))
 
--- src/lib.rt:58:9
 draw-requires : tie.Need-draw-requires
 draw-requires c κs = search needs
 
--- src/lib.rt:59:8
 last-step-requires : tie.Need-last-step-requires
 last-step-requires c κs = search needs
 
--- src/lib.rt:60:9
 end-blit-requires : tie.Need-end-blit-requires
 end-blit-requires c κs = search needs
 
--- src/lib.rt:60:9
 same-length : tie.Need-same-length
 same-length c = search needs
 
--- src/lib.rt:60:9
 returns-2 : tie.Need-returns-2
-returns-2 c = ?
+returns-2 c = λ x. rw (c .end-blit .ensures, c .before .before .before .before .before .draw .ensures .1) (sym (stepped-last (adapter (c .before .before .before .before .before .before .before .before .before .before .before .args .s) (c .before .before .before .before .before .before .before .before .before .before .before .args .vram .now) x) (not-false (c .before .before .before .before .before .before .before .before .before .before .before .args .s .engine .running) (c .before .before .before .before .before .before .before .if1 .left)) (sym (c .before .before .last-step .ensures) ∙ c .before .if2 .taken)))
 
--- src/lib.rt:62:20
 advance-requires : tie.Need-advance-requires
-advance-requires c κs = ?
+advance-requires c κs = (record { running = not-false (c .before .before .before .before .before .before .before .before .before .before .args .s .engine .running) (c .before .before .before .before .before .before .if1 .left); in-range = c .before .before .before .before .before .before .before .before .before .before .pre .1 .engine }, (sym (c .before .last-step .ensures) ∙ c .if2 .left))
 
--- src/lib.rt:62:5
 with-engine-requires : tie.Need-with-engine-requires
 with-engine-requires c κs = search needs
 
--- src/lib.rt:49:1
 same-length-2 : tie.Need-same-length-2
 same-length-2 c = search needs
 
--- src/lib.rt:49:1
 returns-3 : tie.Need-returns-3
-returns-3 c = ?
+returns-3 c =
+    let e = c .before .before .before .before .before .before .before .before .before .before .before .before .args .s .engine in
+    let next = c .before .advance .ensures ∙ ap (advanced e) (c .before .before .before .before .before .before .draw .ensures .0) ∙ sym (next-is e (c .before .before .before .before .before .before .before .before .before .before .before .before .args .vram .now)) in
+    λ x. rw (c .with-engine .ensures, next, c .before .before .before .before .before .before .draw .ensures .1) (sym (stepped-on (adapter (c .before .before .before .before .before .before .before .before .before .before .before .before .args .s) (c .before .before .before .before .before .before .before .before .before .before .before .before .args .vram .now) x) (not-false (c .before .before .before .before .before .before .before .before .before .before .before .before .args .s .engine .running) (c .before .before .before .before .before .before .before .before .if1 .left)) (sym (c .before .before .before .last-step .ensures) ∙ c .before .before .if2 .left)))
 
 pub step-spec : {M : Type 1} → statement M
 step-spec =
