@@ -5,7 +5,6 @@ use xosera::ReadAnswer;
 use xosera::State;
 use xosera::StateAnswer;
 use xosera::WriteAnswer;
-
 ghost use mathlib.Core.Path.{_≡_};
 ghost use mathlib.Core.Bool.{cond};
 ghost use mathlib.Core.List.{List};
@@ -23,14 +22,27 @@ pub extern "C" fn xosera_reset() -> State
 }
 
 #[no_mangle]
-pub extern "C" fn xosera_write_byte(s: State, vram: &mut [u16], xr: &mut [u16], reg: u8, odd: bool, byte: u8) -> WriteAnswer
+pub extern "C" fn xosera_write_byte(
+    s: State,
+    vram: &mut [u16],
+    xr: &mut [u16],
+    reg: u8,
+    odd: bool,
+    byte: u8,
+) -> WriteAnswer
     ensures { λ r. ⌜ Does (adapter s (now (vram .entry)) (now (xr .entry))) (call (write reg odd byte)) (r .refusal) 0 (adapter (r .state) (now (vram .exit)) (now (xr .exit))) ⌝ }
 {
     adapter::write_byte(s, vram, xr, reg, odd, byte)
 }
 
 #[no_mangle]
-pub extern "C" fn xosera_read_byte(s: State, vram: &[u16], xr: &[u16], reg: u8, odd: bool) -> ReadAnswer
+pub extern "C" fn xosera_read_byte(
+    s: State,
+    vram: &[u16],
+    xr: &[u16],
+    reg: u8,
+    odd: bool,
+) -> ReadAnswer
     ensures { λ r. ⌜ Does (adapter s (now (vram .entry)) (now (xr .entry))) (call (read reg odd)) (r .refusal) (r .byte) (adapter (r .state) (now (vram .entry)) (now (xr .entry))) ⌝ }
 {
     adapter::read_byte(s, vram, xr, reg, odd)

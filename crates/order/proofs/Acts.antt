@@ -16,7 +16,7 @@ use Rattle.xosera.specs.TimerTick as TimerTick
 use Rattle.xosera.specs.Events.{Call, write, read, tick, frameEnd, line, call}
 use Rattle.xosera.specs.Refusals.{blitterFull}
 use Rattle.xosera.specs.Calls.{actOf}
-use Rattle.xosera.specs.Order.{accepted, callWrites, callLoads, callStarts}
+use Rattle.order.specs.Order.{accepted, callWrites, callLoads, callStarts}
 use Rattle.xosera.proofs.Branches.{cond-no, cond-either, cond-cases}
 use Rattle.order.specs.Work.{callTries}
 use Rattle.order.proofs.Tests.{clash, not-passed, and-both}

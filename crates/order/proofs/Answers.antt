@@ -11,7 +11,7 @@ use Rattle.xosera.specs.HostBytes.{highByte, lowByte}
 use Rattle.xosera.specs.Events.{Call, write, read, tick, frameEnd, line, call}
 use Rattle.xosera.specs.Refusals.{refusal}
 use Rattle.xosera.specs.Calls.{given, answer}
-use Rattle.xosera.specs.Order.{agreed}
+use Rattle.order.specs.Order.{agreed}
 use Rattle.order.specs.Work.{withoutFull, agreedBut}
 use Rattle.order.proofs.Status.{without-alike}
 use Rattle.order.proofs.Fit.{fit-status}

@@ -11,7 +11,7 @@ use Rattle.xosera.specs.Adapter.{Adapter}
 use Rattle.xosera.specs.HostBytes.{wordOf}
 use Rattle.xosera.specs.Events.{Call, Event, write, read, tick, frameEnd, line, call, step, run}
 use Rattle.xosera.specs.Calls.{after}
-use Rattle.xosera.specs.Order.{callWrites, callLoads, callStarts, Apart, AllApart}
+use Rattle.order.specs.Order.{callWrites, callLoads, callStarts, Apart, AllApart}
 use Rattle.order.specs.Work.{callTries, AllPatient}
 use Rattle.order.proofs.Tests.{clash, not-passed, and-both}
 

@@ -12,7 +12,7 @@ use Rattle.xosera.specs.Blitter.{blitWords, wordsLeft}
 use Rattle.xosera.specs.Events.{Call, call}
 use Rattle.xosera.specs.Refusals.{refusal}
 use Rattle.xosera.specs.Calls.{actOf, vramLoaded, perform, done, after}
-use Rattle.xosera.specs.Order.{accepted, Apart, blitWrites}
+use Rattle.order.specs.Order.{accepted, Apart, blitWrites}
 use Rattle.xosera.proofs.Branches.{cond-yes, cond-no, cond-either}
 use Rattle.order.specs.Work.{Fit, callTries}
 use Rattle.order.proofs.Tests.{clash, not-passed}

@@ -8,7 +8,8 @@ use Rattle.xosera.specs.Blitter.{stepped, steps, wordsLeft}
 use Rattle.xosera.specs.Events.{Call, Event, Answer, call, step, run}
 use Rattle.xosera.specs.Refusals.{applying, refusal}
 use Rattle.xosera.specs.Calls.{actOf, perform, done, after}
-use Rattle.xosera.specs.Order.{Demand3, stepsIn, startWith, wordsOf, callStarts, accepted, AllApart, blitReads, blitWrites, answers, Alike, blitFirst}
+use Rattle.xosera.specs.Sequences.{startWith, wordsOf}
+use Rattle.order.specs.Order.{Demand3, stepsIn, callStarts, accepted, AllApart, blitReads, blitWrites, answers, Alike, blitFirst}
 use Rattle.xosera.proofs.Branches.{cond-no, cond-cases}
 use Rattle.xosera.proofs.RefusalLaws.{accepted-none}
 use Rattle.xosera.proofs.StepLaws.{EndsOnLastStep, blit-ends-on-its-last-step}
@@ -74,7 +75,7 @@ started s es fit alone left enough apart =
     }
 
 pub demand-3 : Demand3
-demand-3 a b es starts enough apart =
+demand-3 a b es starts keeps =
     let s : Adapter = after a (startWith b) in
     let blit : EndsOnLastStep s = blit-ends-on-its-last-step a b starts in
-    started s es (fit-after a (startWith b) (start-fit a b (starts .accepted))) (blit .alone) (blit .left) enough apart
+    started s es (fit-after a (startWith b) (start-fit a b (starts .accepted))) (blit .alone) (blit .left) (keeps .enough) (keeps .apart)

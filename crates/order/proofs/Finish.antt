@@ -7,7 +7,7 @@ use native.Mathlib.Nat.{le-refl}
 use native.Mathlib.Omega.{arith}
 use Rattle.xosera.specs.Adapter.{Adapter}
 use Rattle.xosera.specs.Blitter.{idle, stepped, steps, wordsLeft}
-use Rattle.xosera.specs.Order.{blitReads, blitWrites}
+use Rattle.order.specs.Order.{blitReads, blitWrites}
 use Rattle.xosera.proofs.StepCases.{step-cases, stepped-idle}
 use Rattle.xosera.proofs.RangeLaws.{stepped-side, steps-side}
 use Rattle.xosera.proofs.StepLaws.{stepped-left, steps-left, over-after}

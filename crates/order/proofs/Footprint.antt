@@ -6,7 +6,7 @@ use Prim.Native.Nat.{ℕ, zero, suc, _%_}
 use Rattle.xosera.specs.Memories.{place, word}
 use Rattle.xosera.specs.Adapter.{Adapter}
 use Rattle.xosera.specs.Blitter.{drawing, drawn, lastStep, next, succeeding, stepped, steps}
-use Rattle.xosera.specs.Order.{writesNow, blitWrites}
+use Rattle.order.specs.Order.{writesNow, blitWrites}
 use Rattle.xosera.proofs.Branches.{cond-yes}
 use Rattle.xosera.proofs.StepCases.{stepped-idle}
 use Rattle.xosera.proofs.RangeLaws.{stepped-vram-length}

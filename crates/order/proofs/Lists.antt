@@ -10,7 +10,8 @@ use Rattle.xosera.specs.Blitter.{steps, wordsLeft}
 use Rattle.xosera.specs.Events.{Call, Event, call, step, run}
 use Rattle.xosera.specs.Refusals.{refusal}
 use Rattle.xosera.specs.Calls.{answer, after}
-use Rattle.xosera.specs.Order.{stepsIn, withoutSteps, afterAll, Apart, AllApart, butBit6}
+use Rattle.xosera.specs.Sequences.{afterAll}
+use Rattle.order.specs.Order.{stepsIn, withoutSteps, Apart, AllApart, butBit6}
 use Rattle.xosera.proofs.StepLaws.{steps-idle, over-after}
 use Rattle.order.specs.Work.{callTries, AllPatient, answered, answersBut, AlikeBut}
 use Rattle.order.proofs.Fit.{fit-range, fit-status, fit-idle, fit-unqueued, after-step, after-run}

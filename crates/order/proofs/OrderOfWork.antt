@@ -7,7 +7,8 @@ use lib.ListN.{replicate}
 use Rattle.xosera.specs.Adapter.{Adapter}
 use Rattle.xosera.specs.Blitter.{stepped, steps, wordsLeft}
 use Rattle.xosera.specs.Events.{Event, step}
-use Rattle.xosera.specs.Order.{withoutSteps, afterAll, butBit6, blitFirst}
+use Rattle.xosera.specs.Sequences.{afterAll}
+use Rattle.order.specs.Order.{withoutSteps, butBit6, blitFirst}
 use Rattle.order.specs.Work.{Fit, answersBut, AlikeBut, OrderOfWork}
 use Rattle.order.proofs.Fit.{fit-stepped, after-step}
 use Rattle.order.proofs.Finish.{finished, finishes}

@@ -9,7 +9,7 @@ use Rattle.xosera.specs.Words.{shifted}
 use Rattle.xosera.specs.Memories.{place, word, Store, stored}
 use Rattle.xosera.specs.Adapter.{Adapter}
 use Rattle.xosera.specs.Blitter.{isConstant, fetched, sourced, drawing, drawn, lastStep, nextKept, next, launched, succeeding, stepped, steps}
-use Rattle.xosera.specs.Order.{readsNow, writesNow, blitReads, blitWrites}
+use Rattle.order.specs.Order.{readsNow, writesNow, blitReads, blitWrites}
 use Rattle.xosera.specs.declared.Engine.{Engine}
 use Rattle.xosera.specs.declared.BlitRegs.{BlitRegs}
 use Rattle.xosera.proofs.StepCases.{stepped-idle}

@@ -12,7 +12,8 @@ use Rattle.xosera.specs.Blitter.{launched, isConstant, fetched, sourced, firstM
 use Rattle.xosera.specs.Events.{tick, frameEnd}
 use Rattle.xosera.specs.Refusals.{timerInRange, hostInRange, runningInRange, isNoRegs, idleInRange, engineInRange, inRange, badVram, badXr, badState, badRegister, blitterFull, reconfigures, applying, lowest, refusal}
 use Rattle.xosera.specs.Calls.{actOf, vramLoaded, startedEngine, perform, done, after, lineUp, given, answer}
-use Rattle.xosera.specs.Order.{wordsOf, stepsIn, afterAll, readsNow, writesNow, blitReads, blitWrites, accepted, callWrites, callLoads, callStarts}
+use Rattle.xosera.specs.Sequences.{wordsOf, afterAll}
+use Rattle.order.specs.Order.{stepsIn, readsNow, writesNow, blitReads, blitWrites, accepted, callWrites, callLoads, callStarts}
 use Rattle.order.specs.Work.{callTries}
 use Rattle.order.specs.Witness.{begun, between, Witness, queuedUp, QueuedWitness}
 use Rattle.order.proofs.ApartTest.{apartTest, allApartTest, all-apart-tested, allPatientTest, all-patient-tested}
@@ -22,8 +23,10 @@ unfolding apartTest allApartTest allPatientTest callTries callWrites callLoads c
 computed = (
   record {
     starts = record { accepted = refl; words = refl; idle = refl };
-    enough = lit≤ tt;
-    apart = all-apart-tested (blitReads (wordsOf begun) begun) (blitWrites (wordsOf begun) begun) between begun refl;
+    keeps = record {
+      enough = lit≤ tt;
+      apart = all-apart-tested (blitReads (wordsOf begun) begun) (blitWrites (wordsOf begun) begun) between begun refl;
+    };
     drawn = refl;
     stored = refl;
     read-back = refl;

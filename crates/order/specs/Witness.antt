@@ -8,7 +8,8 @@ use Rattle.xosera.specs.Adapter.{Adapter}
 use Rattle.xosera.specs.Blitter.{wordsLeft}
 use Rattle.xosera.specs.Events.{Event, write, tick, frameEnd, line, call, step, run}
 use Rattle.xosera.specs.Calls.{after}
-use Rattle.xosera.specs.Order.{Starts, startWith, wordsOf, stepsIn, afterAll, blitReads, blitWrites, AllApart}
+use Rattle.xosera.specs.Sequences.{Starts, startWith, wordsOf, afterAll}
+use Rattle.order.specs.Order.{stepsIn, blitReads, blitWrites, AllApart, Keeps}
 use Rattle.xosera.specs.BenchTable.{setWord, setXr, readWord, bench, seen, told}
 use Rattle.order.specs.Work.{Fit, AllPatient}
 
@@ -33,8 +34,7 @@ between =
 
 pub record Witness : Type 0 where
   pub starts : Starts ready 2
-  pub enough : wordsOf begun ≤ stepsIn between
-  pub apart : AllApart (blitReads (wordsOf begun) begun) (blitWrites (wordsOf begun) begun) begun between
+  pub keeps : Keeps begun between
   -- The blit draws its six words, the store beside it is made, and the loaded word is read.
   pub drawn : seen 0x20 6 (afterAll begun between) ≡ 0x1234 ∷ 0x5678 ∷ 0x9ABC ∷ 0xDEF0 ∷ 0x1111 ∷ 0x2222 ∷ []
   pub stored : seen 0x80 1 (afterAll begun between) ≡ 0xBEEF ∷ []

@@ -11,7 +11,8 @@ use Rattle.xosera.specs.Blitter.{wordsLeft}
 use Rattle.xosera.specs.Events.{Call, Event, Answer, write, read, tick, frameEnd, line, call, step, run}
 use Rattle.xosera.specs.Refusals.{badVram, badXr, badState, blitterFull}
 use Rattle.xosera.specs.Calls.{after, answer}
-use Rattle.xosera.specs.Order.{stepsIn, afterAll, blitReads, blitWrites, AllApart, agreed, butBit6, blitFirst}
+use Rattle.xosera.specs.Sequences.{afterAll}
+use Rattle.order.specs.Order.{stepsIn, blitReads, blitWrites, AllApart, agreed, butBit6, blitFirst}
 
 -- An adapter to which none of the refusals 1 to 3 applies: lengths as lent, and the state in its ranges.
 pub record Fit (a : Adapter) : Type 0 where

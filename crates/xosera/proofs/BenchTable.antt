@@ -13,7 +13,7 @@ use Rattle.xosera.specs.TimerTick.{expires, counted, ticked, tick, frame
 use Rattle.xosera.specs.Blitter.{launched, isConstant, fetched, sourced, firstMask, lastWord, lastMask, testMask, writeMask, drawing, drawn, lastStep, nextSource, nextDest, nextKept, next, succeeding, stepped, steps, blitWords, engineLeft, wordsLeft}
 use Rattle.xosera.specs.Refusals.{timerInRange, hostInRange, runningInRange, isNoRegs, idleInRange, engineInRange, inRange, badVram, badXr, badState, badRegister, blitterFull, reconfigures, applying, lowest, refusal}
 use Rattle.xosera.specs.Calls.{actOf, vramLoaded, startedEngine, perform, done, after, lineUp, given, answer}
-use Rattle.xosera.specs.Order.{afterAll}
+use Rattle.xosera.specs.Sequences.{afterAll}
 use Rattle.xosera.specs.BenchTable.{Row, table, TableHolds}
 
 abbrev same : List ℕ → List ℕ → Bool

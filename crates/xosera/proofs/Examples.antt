@@ -16,7 +16,7 @@ use Rattle.xosera.specs.Blitter.{idle, launched, isConstant, fetched, so
 use Rattle.xosera.specs.Events.{Event, write, read, tick, frameEnd, line, call, step, run}
 use Rattle.xosera.specs.Refusals.{resetState, timerInRange, hostInRange, runningInRange, isNoRegs, idleInRange, engineInRange, inRange, badVram, badXr, badState, badRegister, blitterFull, reconfigures, applying, lowest, refusal}
 use Rattle.xosera.specs.Calls.{actOf, vramLoaded, startedEngine, perform, done, after, lineUp, given, answer}
-use Rattle.xosera.specs.Order.{afterAll}
+use Rattle.xosera.specs.Sequences.{afterAll}
 use Rattle.xosera.specs.BenchTable.{Row, setWord, setXr, readWord, blit, bench, seen, told, refused, blitted}
 use Rattle.xosera.proofs.BenchTable.{allSame, all-equal}
 

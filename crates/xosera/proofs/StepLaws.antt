@@ -14,7 +14,7 @@ use Rattle.xosera.specs.Blitter.{idle, launched, lastStep, stepped, step
 use Rattle.xosera.specs.Events.{write, step, run}
 use Rattle.xosera.specs.Refusals.{inRange, refusal}
 use Rattle.xosera.specs.Calls.{actOf, startedEngine, perform, done, after, given}
-use Rattle.xosera.specs.Order.{startWith, Starts, wordsOf}
+use Rattle.xosera.specs.Sequences.{startWith, Starts, wordsOf}
 use Rattle.xosera.proofs.Branches.{cond-yes, cond-no}
 use Rattle.xosera.proofs.EngineLaws.{launched-left, last-left, next-left, idle-left, running-left, succeeding-left}
 use Rattle.xosera.proofs.StepCases.{stepped-idle, stepped-last, stepped-on}

@@ -9,7 +9,7 @@ use Rattle.xosera.specs.Adapter.{Adapter, adapter}
 use Rattle.xosera.specs.Events.{Event, write, read, tick, call, run}
 use Rattle.xosera.specs.Refusals.{resetState}
 use Rattle.xosera.specs.Calls.{after, answer}
-use Rattle.xosera.specs.Order.{afterAll}
+use Rattle.xosera.specs.Sequences.{afterAll}
 
 -- A word written to a main register, an XR register and the blitter's ten.
 abbrev pub setWord : ℕ → ℕ → List Event

@@ -9,5 +9,5 @@ pub mod Blitter
 pub mod Events
 pub mod Refusals
 pub mod Calls
-pub mod Order
+pub mod Sequences
 pub mod BenchTable

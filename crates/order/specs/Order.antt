@@ -5,27 +5,15 @@ use mathlib.Core.List.{List, [], _∷_, _++_}
 use Prim.Native.Nat.{ℕ, zero, suc, _+_, _≤_}
 use lib.Dec.{eqb}
 use lib.ListN.{getD, replicate}
 use Rattle.xosera.specs.Words.{wrap, withoutBit}
 use Rattle.xosera.specs.Memories.{place}
 use Rattle.xosera.specs.Adapter.{Adapter}
 use Rattle.xosera.specs.HostBytes.{wordOf}
-use Rattle.xosera.specs.Blitter.{isConstant, drawing, stepped, blitWords}
+use Rattle.xosera.specs.Blitter.{isConstant, drawing, stepped}
 use Rattle.xosera.specs.Events.{Call, Event, Answer, write, read, tick, frameEnd, line, call, step, run}
 use Rattle.xosera.specs.Refusals.{refusal}
 use Rattle.xosera.specs.Calls.{after, answer}
-
--- The start: an odd write to XM_XDATA, not refused, with 0x49 in 4 and the engine idle.
-abbrev pub startWith : ℕ → Event
-startWith b = call (write 5 true b)
-
-pub record Starts (a : Adapter) (b : ℕ) : Type 0 where
-  pub accepted : refusal a (startWith b) ≡ 0
-  pub words : a .side .host .xr .wrxaddr .0 ≡ 0x49
-  pub idle : a .engine .running ≡ false
-
--- W times L, as copied at the start.
-unfoldable pub wordsOf : Adapter → ℕ
-wordsOf a = blitWords (a .engine .regs)
+use Rattle.xosera.specs.Sequences.{startWith, Starts, wordsOf, afterAll}
 
 -- Steps in a list: a blit step counts as one and a run of n as n, whatever they answer.
 unfoldable pub stepsIn : List Event → ℕ
@@ -40,11 +28,6 @@ withoutSteps [] = []
 withoutSteps (call c ∷ es) = call c ∷ withoutSteps es
 withoutSteps (step ∷ es) = withoutSteps es
 withoutSteps (run n ∷ es) = withoutSteps es
-
--- A list of events, each given what the one before it left.
-unfoldable pub afterAll : Adapter → List Event → Adapter
-afterAll a [] = a
-afterAll a (e ∷ es) = afterAll (after a e) es
 
 -- Whether the next blit step takes a VRAM word as source; with a constant it reads none.
 unfoldable pub readsNow : Adapter → ℕ → Bool
@@ -141,12 +124,18 @@ pub record Alike (a : Adapter) (es fs : List Event) : Type 0 where
   pub ends : butBit6 (afterAll a es) ≡ butBit6 (afterAll a fs)
   pub answer-alike : answers a es ≡ answers a fs
 
--- Demand 3. `a` is any adapter before the start, `s` the adapter after it.
+-- What the mission asks of a list that follows a start: W times L steps or more in all, and no access that starts or queues
+-- another blit, writes a word that this one reads or writes, or loads a word that it writes.
+pub record Keeps (s : Adapter) (es : List Event) : Type 0 where
+  pub enough : wordsOf s ≤ stepsIn es
+  pub apart : AllApart (blitReads (wordsOf s) s) (blitWrites (wordsOf s) s) s es
+
+-- Demand 3: for every adapter, start and list of events that keeps these rules, memory and state end as if the whole blit had
+-- been done at its start and the other events had followed, and every event that stands in both orders answers alike.
 abbrev pub Demand3 : Type 0
 Demand3 =
     (a : Adapter) (b : ℕ) (es : List Event) →
     Starts a b →
     let s = after a (startWith b) in
-    wordsOf s ≤ stepsIn es →
-    AllApart (blitReads (wordsOf s) s) (blitWrites (wordsOf s) s) s es →
+    Keeps s es →
     Alike s es (blitFirst (wordsOf s) es)
