@@ -126,7 +126,7 @@ fn is_reconfiguring(s: State, reg: u8, odd: bool, byte: u8) -> bool
         return false;
     }
     let h = s.host;
-    words::bit(15, words::word_of(host::latch_of(h, 1), byte))
+    words::bit(15, words::word_of(host::latch_of(h, reg), byte))
 }
 
 fn read_refusal(s: State, vram: usize, xr: usize, reg: u8) -> u8

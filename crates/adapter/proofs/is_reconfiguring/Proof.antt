@@ -25,7 +25,7 @@ bit-requires c κs = search needs
 
 returns-3 : tie.Need-returns-3
 unfolding reconfigures
-returns-3 c = λ v x. rw (not-false (c .before .before .before .before .before .before .args .odd) (c .before .before .before .before .before .if1 .left), c .before .before .before .before .if2 .left) (rw (c .before .word-of .ensures, c .before .before .latch-of .ensures) at (c .bit .ensures))
+returns-3 c = λ v x. rw (not-false (c .before .before .before .before .before .before .args .odd) (c .before .before .before .before .before .if1 .left), eq-eqb _ _ (c .before .before .before .before .if2 .left)) (rw (c .before .word-of .ensures, c .before .before .latch-of .ensures) at (c .bit .ensures))
 
 pub is-reconfiguring-spec : {M : Type 1} → statement M
 is-reconfiguring-spec =
