@@ -1,69 +1,120 @@
 //! How fast the library is, beside the plain Rust model in the same process.
 //!
-//! Both do the same work on memories of their own; what they leave is compared at the end, so neither
-//! can leave any out. Each figure is the best of several rounds, the two sides taking turns. The plain
-//! model changes its state in place; the library takes and returns it by value, 132 bytes each way,
-//! which is most of what a single step or byte costs.
+//! Three columns of figures, in millions a second: the library; the plain model called as the library
+//! is, with the state going in and coming back by value; and the plain model changing its state in
+//! place. The ratio is that of the first two. All do the same work on memories of their own, and what
+//! they leave is compared, so none can leave any out. Each figure is the best of several rounds, the
+//! sides taking turns.
 
 use std::time::Instant;
 
 use compare::convert::to_model;
 
 const VRAM_WORDS: usize = 65536;
-const ROUNDS: usize = 7;
+const ROUNDS: usize = 9;
 
 /// The blit's size: 256 lines of 256 words.
 const WORDS: u64 = 65536;
-const CALLS: u64 = 200_000;
+const CALLS: u64 = 100_000;
 
-/// One side's work: how long it took in seconds, and a number that depends on all of it.
-type Work<'a> = Box<dyn FnMut() -> (f64, u64) + 'a>;
+/// The plain model called as the library is.
+mod by_value {
+    use model::State;
 
-struct Sides<'a> {
-    library: Work<'a>,
-    plain: Work<'a>,
-}
-
-/// Best rate of each side, in millions a second.
-fn measure(units: u64, mut sides: Sides) -> (f64, f64) {
-    let (mut library, mut plain) = (f64::MAX, f64::MAX);
-    for round in 0..ROUNDS {
-        let (time, left) = (sides.library)();
-        let (plain_time, plain_left) = (sides.plain)();
-        assert_eq!(left, plain_left, "the two sides differ in round {}", round);
-        library = library.min(time);
-        plain = plain.min(plain_time);
+    #[inline(never)]
+    pub fn write_byte(
+        mut s: State,
+        vram: &mut [u16],
+        xr: &mut [u16],
+        reg: u8,
+        odd: bool,
+        byte: u8,
+    ) -> (State, u8) {
+        let answer = s.write_byte(vram, xr, reg, odd, byte);
+        (s, answer.map_or_else(|refusal| refusal as u8, |()| 0))
     }
-    (units as f64 / library / 1e6, units as f64 / plain / 1e6)
+
+    #[inline(never)]
+    pub fn read_byte(mut s: State, vram: &[u16], xr: &[u16], reg: u8, odd: bool) -> (State, u8) {
+        let answer = s.read_byte(vram, xr, reg, odd);
+        (s, answer.unwrap_or(0))
+    }
+
+    #[inline(never)]
+    pub fn blit_step(mut s: State, vram: &mut [u16], xr: &[u16]) -> (State, u64) {
+        let answer = s.blit_step(vram, xr);
+        (s, answer.unwrap_or(0))
+    }
+
+    #[inline(never)]
+    pub fn blit_run(mut s: State, vram: &mut [u16], xr: &[u16], n: u64) -> (State, u64) {
+        let answer = s.blit_run(vram, xr, n);
+        (s, answer.unwrap_or(0))
+    }
 }
 
-fn report(name: &str, unit: &str, (library, plain): (f64, f64)) {
+/// The memories and the two states that a side starts from.
+#[derive(Clone)]
+struct Side {
+    vram: Vec<u16>,
+    xr: Vec<u16>,
+    start: xosera::State,
+    plain_start: model::State,
+}
+
+impl Side {
+    fn of(x: &xosera::Adapter) -> Side {
+        Side {
+            vram: x.vram.clone(),
+            xr: x.xr.clone(),
+            start: x.state,
+            plain_start: to_model(&x.state),
+        }
+    }
+
+    /// A number that depends on every word.
+    fn digest(&self) -> u64 {
+        let words = self.vram.iter().chain(&self.xr);
+        words.fold(0, |sum: u64, &w| {
+            sum.rotate_left(5).wrapping_mul(31) ^ u64::from(w)
+        })
+    }
+}
+
+/// One side's work, from its start; a number that depends on its answers.
+type Work = fn(&mut Side) -> u64;
+
+/// Print the rates of the library, the plain model by value and the plain model in place.
+fn compare(name: &str, unit: &str, units: u64, x: &xosera::Adapter, work: [Work; 3]) {
+    let mut sides = [Side::of(x), Side::of(x), Side::of(x)];
+    let mut best = [f64::MAX; 3];
+    for _ in 0..ROUNDS {
+        let mut left = [0; 3];
+        for i in 0..3 {
+            let start = Instant::now();
+            let answers = work[i](&mut sides[i]);
+            best[i] = best[i].min(start.elapsed().as_secs_f64());
+            left[i] = answers ^ sides[i].digest();
+        }
+        assert!(
+            left[0] == left[1] && left[1] == left[2],
+            "{}: the sides differ",
+            name
+        );
+    }
+    let rate = best.map(|seconds| units as f64 / seconds / 1e6);
     println!(
-        "{:<36} {:>9.1} {:>9.1}  {:<9} {:>6.2}",
+        "{:<36} {:>8.1} {:>8.1} {:>7.2} {:>9.1}  {}",
         name,
-        library,
-        plain,
-        unit,
-        library / plain
+        rate[0],
+        rate[1],
+        rate[0] / rate[1],
+        rate[2],
+        unit
     );
 }
 
-fn timed(work: impl FnOnce() -> u64) -> (f64, u64) {
-    let start = Instant::now();
-    let left = work();
-    (start.elapsed().as_secs_f64(), left)
-}
-
-/// A number that depends on every word.
-fn digest(vram: &[u16]) -> u64 {
-    vram.iter().fold(0u64, |sum, &w| {
-        sum.rotate_left(5)
-            .wrapping_mul(31)
-            .wrapping_add(u64::from(w))
-    })
-}
-
-/// An adapter just after the start of a blit with these registers.
+/// An adapter just after the start of a blit.
 fn started(ctrl: u16, source: u16, shift: u16) -> xosera::Adapter {
     let mut x = xosera::Adapter::new(VRAM_WORDS);
     for (i, word) in x.vram.iter_mut().enumerate() {
@@ -77,123 +128,133 @@ fn started(ctrl: u16, source: u16, shift: u16) -> xosera::Adapter {
     x
 }
 
-fn blit(name: &str, x: &xosera::Adapter) {
-    let start = x.state;
-    let plain_start = to_model(&start);
-
-    let (mut vram, mut plain_vram) = (x.vram.clone(), x.vram.clone());
-    let rates = measure(
-        WORDS,
-        Sides {
-            library: Box::new(|| {
-                let (time, count) =
-                    timed(|| xosera::blit_run(start, &mut vram, &x.xr, u64::MAX).count);
-                (time, count ^ digest(&vram))
-            }),
-            plain: Box::new(|| {
-                let mut s = plain_start;
-                let (time, count) = timed(|| s.blit_run(&mut plain_vram, &x.xr, u64::MAX).unwrap());
-                (time, count ^ digest(&plain_vram))
-            }),
+fn run(name: &str, x: &xosera::Adapter) {
+    let work: [Work; 3] = [
+        |m| xosera::blit_run(m.start, &mut m.vram, &m.xr, u64::MAX).count,
+        |m| by_value::blit_run(m.plain_start, &mut m.vram, &m.xr, u64::MAX).1,
+        |m| {
+            let mut s = m.plain_start;
+            s.blit_run(&mut m.vram, &m.xr, u64::MAX).unwrap_or(0)
         },
-    );
-    report(&format!("one run, {}", name), "Mwords/s", rates);
+    ];
+    compare(&format!("one run, {}", name), "Mwords/s", WORDS, x, work);
+}
 
-    let (mut vram, mut plain_vram) = (x.vram.clone(), x.vram.clone());
-    let rates = measure(
-        WORDS,
-        Sides {
-            library: Box::new(|| {
-                let mut s = start;
-                let (time, count) = timed(|| {
-                    (0..WORDS).fold(0, |count, _| {
-                        let a = xosera::blit_step(s, &mut vram, &x.xr);
-                        s = a.state;
-                        count + a.count
-                    })
-                });
-                (time, count ^ digest(&vram))
-            }),
-            plain: Box::new(|| {
-                let mut s = plain_start;
-                let (time, count) = timed(|| {
-                    (0..WORDS).fold(0, |count, _| {
-                        count + s.blit_step(&mut plain_vram, &x.xr).unwrap()
-                    })
-                });
-                (time, count ^ digest(&plain_vram))
-            }),
+fn steps(name: &str, x: &xosera::Adapter) {
+    let work: [Work; 3] = [
+        |m| {
+            let (mut s, mut count) = (m.start, 0);
+            for _ in 0..WORDS {
+                let a = xosera::blit_step(s, &mut m.vram, &m.xr);
+                s = a.state;
+                count += a.count;
+            }
+            count
         },
+        |m| {
+            let (mut s, mut count) = (m.plain_start, 0);
+            for _ in 0..WORDS {
+                let (after, done) = by_value::blit_step(s, &mut m.vram, &m.xr);
+                s = after;
+                count += done;
+            }
+            count
+        },
+        |m| {
+            let (mut s, mut count) = (m.plain_start, 0);
+            for _ in 0..WORDS {
+                count += s.blit_step(&mut m.vram, &m.xr).unwrap_or(0);
+            }
+            count
+        },
+    ];
+    compare(
+        &format!("single steps, {}", name),
+        "Mwords/s",
+        WORDS,
+        x,
+        work,
     );
-    report(&format!("single steps, {}", name), "Mwords/s", rates);
 }
 
 /// Even and odd bytes in turn at one register.
-fn accesses(name: &str, reg: u8) {
-    let mut x = xosera::Adapter::new(VRAM_WORDS);
-    x.write_word(xosera::XM_WR_INCR, 1).unwrap();
-    x.write_word(xosera::XM_RD_INCR, 1).unwrap();
-    x.write_word(xosera::XM_WR_XADDR, 0x4000).unwrap();
-    let start = x.state;
-    let plain_start = to_model(&start);
-
-    let (mut vram, mut plain_vram) = (x.vram.clone(), x.vram.clone());
-    let (mut xr, mut plain_xr) = (x.xr.clone(), x.xr.clone());
-    let rates = measure(
-        CALLS,
-        Sides {
-            library: Box::new(|| {
-                let mut s = start;
-                timed(|| {
-                    for i in 0..CALLS {
-                        let (odd, byte) = (i % 2 == 1, i as u8);
-                        s = xosera::write_byte(s, &mut vram, &mut xr, reg, odd, byte).state;
-                    }
-                    digest(&vram[..256]) ^ digest(&xr[..256])
-                })
-            }),
-            plain: Box::new(|| {
-                let mut s = plain_start;
-                timed(|| {
-                    for i in 0..CALLS {
-                        let (odd, byte) = (i % 2 == 1, i as u8);
-                        s.write_byte(&mut plain_vram, &mut plain_xr, reg, odd, byte)
-                            .unwrap();
-                    }
-                    digest(&plain_vram[..256]) ^ digest(&plain_xr[..256])
-                })
-            }),
+fn writes<const REG: u8>(name: &str, x: &xosera::Adapter) {
+    let work: [Work; 3] = [
+        |m| {
+            let (mut s, mut refused) = (m.start, 0);
+            for i in 0..CALLS {
+                let (odd, byte) = (i % 2 == 1, i as u8);
+                let a = xosera::write_byte(s, &mut m.vram, &mut m.xr, REG, odd, byte);
+                s = a.state;
+                refused += u64::from(a.refusal);
+            }
+            refused
         },
-    );
-    report(&format!("byte writes to {}", name), "Mcalls/s", rates);
-
-    let rates = measure(
-        CALLS,
-        Sides {
-            library: Box::new(|| {
-                let mut s = start;
-                timed(|| {
-                    (0..CALLS).fold(0, |sum, i| {
-                        let a = xosera::read_byte(s, &vram, &xr, reg, i % 2 == 1);
-                        s = a.state;
-                        sum * 3 % 1_000_003 + u64::from(a.byte)
-                    })
-                })
-            }),
-            plain: Box::new(|| {
-                let mut s = plain_start;
-                timed(|| {
-                    (0..CALLS).fold(0, |sum, i| {
-                        let byte = s
-                            .read_byte(&plain_vram, &plain_xr, reg, i % 2 == 1)
-                            .unwrap();
-                        sum * 3 % 1_000_003 + u64::from(byte)
-                    })
-                })
-            }),
+        |m| {
+            let (mut s, mut refused) = (m.plain_start, 0);
+            for i in 0..CALLS {
+                let (odd, byte) = (i % 2 == 1, i as u8);
+                let a = by_value::write_byte(s, &mut m.vram, &mut m.xr, REG, odd, byte);
+                s = a.0;
+                refused += u64::from(a.1);
+            }
+            refused
         },
+        |m| {
+            let (mut s, mut refused) = (m.plain_start, 0);
+            for i in 0..CALLS {
+                let (odd, byte) = (i % 2 == 1, i as u8);
+                let a = s.write_byte(&mut m.vram, &mut m.xr, REG, odd, byte);
+                refused += u64::from(a.is_err());
+            }
+            refused
+        },
+    ];
+    compare(
+        &format!("byte writes to {}", name),
+        "Mcalls/s",
+        CALLS,
+        x,
+        work,
     );
-    report(&format!("byte reads of {}", name), "Mcalls/s", rates);
+}
+
+fn reads<const REG: u8>(name: &str, x: &xosera::Adapter) {
+    let work: [Work; 3] = [
+        |m| {
+            let (mut s, mut sum) = (m.start, 0u64);
+            for i in 0..CALLS {
+                let a = xosera::read_byte(s, &m.vram, &m.xr, REG, i % 2 == 1);
+                s = a.state;
+                sum = sum.rotate_left(1) ^ u64::from(a.byte);
+            }
+            sum
+        },
+        |m| {
+            let (mut s, mut sum) = (m.plain_start, 0u64);
+            for i in 0..CALLS {
+                let (after, byte) = by_value::read_byte(s, &m.vram, &m.xr, REG, i % 2 == 1);
+                s = after;
+                sum = sum.rotate_left(1) ^ u64::from(byte);
+            }
+            sum
+        },
+        |m| {
+            let (mut s, mut sum) = (m.plain_start, 0u64);
+            for i in 0..CALLS {
+                let byte = s.read_byte(&m.vram, &m.xr, REG, i % 2 == 1).unwrap_or(0);
+                sum = sum.rotate_left(1) ^ u64::from(byte);
+            }
+            sum
+        },
+    ];
+    compare(
+        &format!("byte reads of {}", name),
+        "Mcalls/s",
+        CALLS,
+        x,
+        work,
+    );
 }
 
 fn main() {
@@ -201,12 +262,34 @@ fn main() {
         eprintln!("built without --release: the figures mean nothing");
     }
     println!(
-        "{:<36} {:>9} {:>9}  {:<9} {:>6}",
-        "millions a second", "library", "plain", "", "ratio"
+        "{:<36} {:>8} {:>8} {:>7} {:>9}",
+        "millions a second", "library", "plain", "ratio", "in place"
     );
-    blit("plain copy", &started(0x0000, 0, 0xFF00));
-    blit("shift and colour test", &started(0x0010, 0, 0x7801));
-    blit("constant fill", &started(0x0001, 0x1234, 0xFF00));
-    accesses("XM_DATA", xosera::XM_DATA);
-    accesses("XM_XDATA", xosera::XM_XDATA);
+    let blits = [
+        ("plain copy", started(0x0000, 0x0000, 0xFF00)),
+        ("shift and colour test", started(0x0010, 0x0000, 0x7801)),
+        ("constant fill", started(0x0001, 0x1234, 0xFF00)),
+    ];
+    for (name, x) in &blits {
+        run(name, x);
+    }
+    for (name, x) in &blits {
+        steps(name, x);
+    }
+
+    let mut x = xosera::Adapter::new(VRAM_WORDS);
+    for (reg, word) in [
+        (xosera::XM_WR_INCR, 1),
+        (xosera::XM_RD_INCR, 1),
+        (xosera::XM_WR_XADDR, 0x4000),
+    ] {
+        x.write_word(reg, word)
+            .expect("a reset adapter takes a word");
+    }
+    writes::<{ xosera::XM_DATA }>("XM_DATA", &x);
+    reads::<{ xosera::XM_DATA }>("XM_DATA", &x);
+    writes::<{ xosera::XM_XDATA }>("XM_XDATA", &x);
+    reads::<{ xosera::XM_XDATA }>("XM_XDATA", &x);
+    writes::<{ xosera::XM_TIMER }>("XM_TIMER", &x);
+    reads::<{ xosera::XM_TIMER }>("XM_TIMER", &x);
 }
