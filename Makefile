@@ -21,8 +21,8 @@ export XOSERA_LIB_DIR
 CC       ?= gcc
 CXX      ?= g++
 WARN     := -Wall -Wextra -Wpedantic -Werror
-CFLAGS   := -std=c11 -O1 -g $(WARN) -Iinclude
-CXXFLAGS := -std=c++17 -O1 -g $(WARN) -Iinclude
+CFLAGS   := -std=c11 -O1 -gdwarf-4 $(WARN) -Iinclude
+CXXFLAGS := -std=c++17 -O1 -gdwarf-4 $(WARN) -Iinclude
 VALGRIND := valgrind -q --error-exitcode=9 --leak-check=full --errors-for-leak-kinds=all
 SANITIZE := -fsanitize=address,undefined -fno-sanitize-recover=all
 
@@ -55,7 +55,7 @@ test: test-c test-rust
 # Runs $(1) and prints its last line, or all that did not go well.
 run_tests = $(1) >$(2) 2>&1 || { grep -v -e ' RUN ' -e ' OK ' $(2); exit 1; }; tail -n 1 $(2)
 
-test-c: build/plain/tests build/sanitized/tests build/cross
+test-c: build/plain/tests build/sanitized/tests build/cross build/first_test
 	@printf 'plain: '
 	@$(call run_tests,build/plain/tests,build/plain/log)
 	@printf 'AddressSanitizer and UBSan: '
@@ -64,6 +64,8 @@ test-c: build/plain/tests build/sanitized/tests build/cross
 	@$(call run_tests,$(VALGRIND) build/plain/tests,build/plain/valgrind.log)
 	@build/cross -f | diff examples/cross/fault.txt -
 	@echo "examples/cross shows the fault as in examples/cross/fault.txt"
+	@printf 'docs/FIRMWARE.md: '
+	@build/first_test
 
 build/plain/tests: $(call OBJECTS,plain) $(LIB)
 	@echo "  link $@"; $(CXX) -o $@ $^ -lcmocka
@@ -79,6 +81,12 @@ build/sanitized/%.o: tests/c/%.c $(TESTS_H) | build/sanitized
 	@echo "  cc $<"; $(CC) $(CFLAGS) $(SANITIZE) -c -o $@ $<
 build/sanitized/%.o: tests/c/%.cpp $(TESTS_H) | build/sanitized
 	@echo "  c++ $<"; $(CXX) $(CXXFLAGS) $(SANITIZE) -c -o $@ $<
+
+# The first test of docs/FIRMWARE.md, as it stands there.
+build/first_test.c: docs/FIRMWARE.md | build
+	@awk '/^```/ { inside = /^```c/ && !blocks++; next } inside' $< >$@
+build/first_test: build/first_test.c $(HEADER) $(LIB)
+	@echo "  cc $<"; $(CC) $(CFLAGS) -o $@ $< $(LIB)
 
 build build/plain build/sanitized:
 	@mkdir -p $@
