@@ -3,7 +3,8 @@
 #   make lib         prove the Rattle crates and build the library
 #   make example     draw the cross, and the cross with last spring's fault
 #   make test-c      the C tests: plain, under ASan and UBSan, under valgrind
-#   make test-rust   the library against a plain Rust model, call by call
+#   make test-rust   the library against a plain Rust model, call by call;
+#                    XOSERA_CALLS=100000000 for a long run, XOSERA_SEED=n for the same calls again
 #   make bench       words and calls a second
 #   make clean       remove what this file built
 #

@@ -43,13 +43,17 @@
 
 #define XOSERA_MAIN_REGS 16
 
-/* XM_SYS_CTRL. The two flags are bits of the HIGH byte, as read by xm_getbh(SYS_CTRL): bits 14 and
- * 13 of the word. The nibble mask is in the low byte: bit 3 guards 15:12, bit 0 guards 3:0. */
+/* XM_SYS_CTRL. The flags SYS_CTRL_..._F are bits of the HIGH byte, as read by xm_getbh(SYS_CTRL);
+ * XM_SYS_CTRL_... are the same as bits of the word. The nibble mask is in the low byte: bit 3 guards
+ * bits 15:12 of a VRAM word, bit 0 guards 3:0. */
 #define SYS_CTRL_BLIT_FULL_B 6
 #define SYS_CTRL_BLIT_BUSY_B 5
 #define SYS_CTRL_BLIT_FULL_F 0x40
 #define SYS_CTRL_BLIT_BUSY_F 0x20
 #define SYS_CTRL_WR_MASK_F   0x0F
+#define XM_SYS_CTRL_BLIT_FULL 0x4000
+#define XM_SYS_CTRL_BLIT_BUSY 0x2000
+#define XM_SYS_CTRL_WR_MASK   0x000F
 
 /* XM_INT_CTRL, bits of the word: enable (mask) in 14:8, pending (status) in 6:0. */
 #define INT_CTRL_RECONFIG_B   15

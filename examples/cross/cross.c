@@ -5,8 +5,9 @@
  *
  * The cross, with the pair of marks that says which way to turn, lies in VRAM as a picture of even
  * width. It is drawn at pixel X, Y of the field, cropped on its right to WIDTH pixels, odd or even.
- * The field is printed and, with FILE, written as a PNM picture. -f adds last spring's fault: the
- * crop leaves the right edge mask as it was. Which pixels are wrong, before and after?
+ * The field is printed and, with FILE, written as a PNM picture. -f adds last spring's fault, a crop
+ * that leaves the right edge mask as it was: the field before (X lit and o dark where it is wrong),
+ * the wrong pixels, and the field after.
  */
 #include <stdio.h>
 #include <stdlib.h>
@@ -75,11 +76,13 @@ static int pixel(int field, int x, int y)
     return vram[field + y * PITCH + x / 4] >> (12 - 4 * (x % 4)) & 0xF;
 }
 
-static void put_field(FILE *to, int field, char dark, char lit)
+/* `ink` has a character each for dark, lit, dark and wrong, lit and wrong. */
+static void put_field(FILE *to, int field, const char *ink)
 {
     for (int y = 0; y < FIELD_H; y++) {
         for (int x = 0; x < FIELD_W; x++) {
-            fputc(pixel(field, x, y) == 0 ? dark : lit, to);
+            const int lit = pixel(field, x, y) != 0, wrong = pixel(field, x, y) != pixel(FIELD, x, y);
+            fputc(ink[lit + 2 * wrong], to);
         }
         fputc('\n', to);
     }
@@ -123,18 +126,18 @@ int main(int argc, char **argv)
     if (fault) {
         draw_cross(FAULTY, x, y, width, even);
         printf("before: cropped to %d, right mask still that of %d\n", width, even);
-        put_field(stdout, FAULTY, '.', '#');
+        put_field(stdout, FAULTY, ".#oX");
         put_wrong_pixels();
         printf("after: right mask of %d\n", width);
     }
-    put_field(stdout, FIELD, '.', '#');
+    put_field(stdout, FIELD, ".#oX");
     if (n == 4) {
         FILE *const file = fopen(args[3], "w");
         if (file == NULL || fprintf(file, "P1\n%d %d\n", FIELD_W, FIELD_H) < 0) {
             perror(args[3]);
             return 1;
         }
-        put_field(file, fault ? FAULTY : FIELD, '0', '1');
+        put_field(file, fault ? FAULTY : FIELD, "0101");
         fclose(file);
     }
     return 0;

@@ -1,4 +1,6 @@
 /* The board's spelling: each accessor does the bytes that it stands for. */
+#include <pthread.h>
+
 #include "tests.h"
 
 #include "board_code.h"
@@ -135,6 +137,30 @@ static void adapters_do_not_meet(void **state)
     adapter_free(second);
 }
 
+/* Another thread: no adapter in use at first, then one of its own. */
+static void *elsewhere(void *arg)
+{
+    xosera *own = (xosera *)arg;
+    xosera *const before = xosera_use(own);
+    board_clear(0x20, 1, 0x3333);
+    xwait_blit_done();
+    return before;
+}
+
+static void each_thread_has_its_adapter(void **state)
+{
+    xosera *first = (xosera *)*state, *second = adapter_new(256);
+    pthread_t thread;
+    void *before = first;
+    vram_setw(0x20, 0x1111);
+    assert_int_equal(pthread_create(&thread, NULL, elsewhere, second), 0);
+    assert_int_equal(pthread_join(thread, &before), 0);
+    assert_null(before);
+    assert_int_equal(second->vram[0x20], 0x3333);
+    assert_int_equal(vram_getw(0x20), 0x1111);
+    adapter_free(second);
+}
+
 static void a_state_can_be_saved_and_put_back(void **state)
 {
     xosera *x = (xosera *)*state;
@@ -143,6 +169,8 @@ static void a_state_can_be_saved_and_put_back(void **state)
     xm_setw(WR_ADDR, 0x0456);
     x->state = saved;
     assert_int_equal(xm_getw(WR_ADDR), 0x0123);
+    x->state = xosera_reset();
+    assert_int_equal(xm_getw(WR_ADDR), 0x0000);
 }
 
 static void the_header_serves_cpp(void **state)
@@ -162,6 +190,7 @@ int api_group(int *tests)
         WITH_ADAPTER(a_loop_of_the_boards_own_ends_when_accesses_take_time),
         WITH_ADAPTER(arguments_are_evaluated_once),
         WITH_ADAPTER(adapters_do_not_meet),
+        WITH_ADAPTER(each_thread_has_its_adapter),
         WITH_ADAPTER(a_state_can_be_saved_and_put_back),
         WITH_ADAPTER(the_header_serves_cpp),
     };

@@ -69,7 +69,11 @@ static void refusal_2_xr_length(void **state)
 {
     (void)state;
     xosera *x = adapter_new(256);
-    const size_t wrong[] = {0, 1, 512, 5120, 6144, 6655};
+    const size_t wrong[] = {0, 1, 512, 5120, 6144, 6655, 6657, 8192};
+    x->xr_len = 8192;
+    x->xr = (uint16_t *)realloc(x->xr, x->xr_len * sizeof *x->xr);
+    assert_non_null(x->xr);
+    fill(x->xr, x->xr_len, 5);
     for (size_t i = 0; i < sizeof wrong / sizeof wrong[0]; i++) {
         all_refuse(x, (lent){256, wrong[i]}, XM_XDATA, XOSERA_XR_LENGTH);
         x->state.status = 0xFF; /* out of range, and no such register: the lowest number is given */

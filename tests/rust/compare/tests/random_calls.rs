@@ -146,6 +146,15 @@ fn kind(call: Call) -> usize {
     }
 }
 
+/// The steps that a call asks for.
+fn asked(call: Call) -> Option<u64> {
+    match call {
+        Call::Step => Some(1),
+        Call::Run { n } => Some(n),
+        _ => None,
+    }
+}
+
 /// One episode: fresh memories of one length, then calls, each from what the one before it left.
 fn episode(calls: &mut Calls, tally: &mut Tally, length: usize, n: u64) -> Result<(), String> {
     let vram = VRAM_LENGTHS[length];
@@ -171,6 +180,18 @@ fn episode(calls: &mut Calls, tally: &mut Tally, length: usize, n: u64) -> Resul
         let (after, said) = pair
             .call(before, lent, call)
             .map_err(|mismatch| format!("call {} of the episode\n{}", i, mismatch))?;
+        if said.refusal == 0 {
+            if let Some(steps) = asked(call) {
+                let left = model::words_left(&to_model(&before));
+                assert_eq!(
+                    said.value,
+                    steps.min(left),
+                    "{:?} with {} words left",
+                    call,
+                    left
+                );
+            }
+        }
         tally.calls += 1;
         tally.kinds[kind(call)] += 1;
         tally.refusals[said.refusal as usize] += 1;
