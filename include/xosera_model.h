@@ -44,13 +44,13 @@
 #define XOSERA_MAIN_REGS 16
 
 /* XM_SYS_CTRL. The flags SYS_CTRL_..._F are bits of the HIGH byte, as read by xm_getbh(SYS_CTRL);
- * XM_SYS_CTRL_... are the same as bits of the word. The nibble mask is in the low byte: bit 3 guards
- * bits 15:12 of a VRAM word, bit 0 guards 3:0. */
-#define SYS_CTRL_BLIT_FULL_B 6
-#define SYS_CTRL_BLIT_BUSY_B 5
-#define SYS_CTRL_BLIT_FULL_F 0x40
-#define SYS_CTRL_BLIT_BUSY_F 0x20
-#define SYS_CTRL_WR_MASK_F   0x0F
+ * XM_SYS_CTRL_... are the same as bits of the word. The nibble mask is in the low byte: bit 3
+ * guards bits 15:12 of a VRAM word, bit 0 guards 3:0. */
+#define SYS_CTRL_BLIT_FULL_B  6
+#define SYS_CTRL_BLIT_BUSY_B  5
+#define SYS_CTRL_BLIT_FULL_F  0x40
+#define SYS_CTRL_BLIT_BUSY_F  0x20
+#define SYS_CTRL_WR_MASK_F    0x0F
 #define XM_SYS_CTRL_BLIT_FULL 0x4000
 #define XM_SYS_CTRL_BLIT_BUSY 0x2000
 #define XM_SYS_CTRL_WR_MASK   0x000F
@@ -160,11 +160,11 @@
 #define BLIT_SHIFT_AMOUNT_F 0x0003
 
 #define MAKE_BLIT_CTRL(tval, transp8, transp, s_const)                                             \
-    ((uint16_t)((((tval) & 0xFF) << BLIT_CTRL_TVAL_B) | ((transp8) ? BLIT_CTRL_TRANSP_8B_F : 0) |  \
+    ((uint16_t)(((0xFF & (tval)) << BLIT_CTRL_TVAL_B) | ((transp8) ? BLIT_CTRL_TRANSP_8B_F : 0) |  \
                 ((transp) ? BLIT_CTRL_TRANSP_F : 0) | ((s_const) ? BLIT_CTRL_S_CONST_F : 0)))
 #define MAKE_BLIT_SHIFT(first, last, amount)                                                       \
-    ((uint16_t)((((first) & 0xF) << BLIT_SHIFT_FIRST_B) | (((last) & 0xF) << BLIT_SHIFT_LAST_B) |  \
-                ((amount) & 0x3)))
+    ((uint16_t)(((0xF & (first)) << BLIT_SHIFT_FIRST_B) | ((0xF & (last)) << BLIT_SHIFT_LAST_B) |  \
+                (0x3 & (amount))))
 
 /* XR memories. */
 #define XR_TILE_ADDR    0x4000 /* to 0x53FF */
@@ -241,7 +241,7 @@ typedef struct xosera_host {
     xosera_timer timer;
     xosera_xr_port xr;
     xosera_vram_port vram;
-    uint8_t int_mask; /* at most 127 */
+    uint8_t int_mask;                /* at most 127 */
     uint8_t latch[XOSERA_MAIN_REGS]; /* high byte of each register, as last written */
 } xosera_host;
 
@@ -276,7 +276,7 @@ typedef struct xosera_engine {
     uint16_t line; /* the line and the word that come next, from 0 */
     uint16_t word;
     uint16_t kept;         /* source word before, for the shifter; 0 on a line's first word */
-    xosera_blit_regs regs; /* as copied at the start; src_s and dst_d move on, lines is mod 32,768 */
+    xosera_blit_regs regs; /* as copied, lines mod 32,768; src_s and dst_d move on in place */
 } xosera_engine;
 
 /* The whole state of the adapter but for its memories. A plain value: copy it to save it. */
@@ -317,7 +317,7 @@ typedef struct xosera_line_answer {
     bool up;
 } xosera_line_answer;
 
-/* The layout that the library was built with; tests/c/test_layout.c holds it against the library. */
+/* The library's layout; tests/c/test_layout.c holds it against the library. */
 #ifdef __cplusplus
 #define XOSERA_ASSERT(cond, text) static_assert(cond, text)
 #else
@@ -451,13 +451,16 @@ typedef enum xosera_call {
     XOSERA_CALL_LINE
 } xosera_call;
 
-/* A refused call: which, why, and its arguments where it has them. */
+/* A refused call: why, which, its arguments where it has them, and the line of source that last
+ * used an accessor of Part 4 (NULL and 0 where none did). */
 typedef struct xosera_refused {
     xosera_refusal why; /* XOSERA_DONE: no call was refused */
     xosera_call call;
     uint8_t reg; /* write and read */
     bool odd;
     uint8_t byte; /* write */
+    const char *file;
+    int line;
 } xosera_refused;
 
 /* An adapter: its state and the two memories lent to it. Every field may be read, and set between
@@ -471,20 +474,23 @@ struct xosera {
     size_t xr_len;
     uint64_t blit_per_access; /* words that the blitter does after each byte accessed; at first 0 */
 
-    /* A refusal is never lost: the first one since xosera_clear_refusals stays, each is counted, and
-     * the hook, unless NULL, is told of each at once. It may stop the test. */
+    /* A refusal is never lost: the first one since xosera_clear_refusals stays, each is counted,
+     * and the hook, unless NULL, is told of each at once. It may stop the test. */
     xosera_refused first_refused;
     xosera_refused last_refused;
     uint64_t refusals;
     void (*on_refusal)(xosera *x, const xosera_refused *what);
     void *user; /* for the hook; the layer does not touch it */
+
+    const char *file; /* the line that last used an accessor of Part 4 */
+    int line;
 };
 
 /* Lend the memories to an adapter and reset it; no word of them is changed. */
 static inline void xosera_attach(xosera *x, uint16_t *vram, size_t vram_len, uint16_t *xr,
                                  size_t xr_len)
 {
-    static const xosera_refused none = {XOSERA_DONE, XOSERA_CALL_WRITE, 0, false, 0};
+    static const xosera_refused none = {XOSERA_DONE, XOSERA_CALL_WRITE, 0, false, 0, NULL, 0};
     x->state = xosera_reset();
     x->vram = vram;
     x->vram_len = vram_len;
@@ -496,6 +502,8 @@ static inline void xosera_attach(xosera *x, uint16_t *vram, size_t vram_len, uin
     x->refusals = 0;
     x->on_refusal = NULL;
     x->user = NULL;
+    x->file = NULL;
+    x->line = 0;
 }
 
 /* Forget the refusals so far. */
@@ -521,6 +529,23 @@ static inline const char *xosera_refusal_text(unsigned refusal)
     }
 }
 
+/* A hook that says what was refused and where, and ends the program. */
+static inline void xosera_abort_on_refusal(xosera *x, const xosera_refused *what)
+{
+    static const char *const calls[] = {"write",      "read",      "blit step",    "blit run",
+                                        "timer tick", "frame end", "line question"};
+    (void)x;
+    if (what->file != NULL) {
+        fprintf(stderr, "%s:%d: ", what->file, what->line);
+    }
+    if (what->call <= XOSERA_CALL_READ) {
+        fprintf(stderr, "%s byte of register %d: ", what->odd ? "odd" : "even", (int)what->reg);
+    }
+    fprintf(stderr, "%s refused, %d: %s\n", calls[what->call], (int)what->why,
+            xosera_refusal_text(what->why));
+    abort();
+}
+
 /* Take down a refusal and tell the hook; nothing where the call was done. */
 static inline void xosera_note(xosera *x, uint8_t refusal, xosera_call call, uint8_t reg, bool odd,
                                uint8_t byte)
@@ -533,6 +558,8 @@ static inline void xosera_note(xosera *x, uint8_t refusal, xosera_call call, uin
     x->last_refused.reg = reg;
     x->last_refused.odd = odd;
     x->last_refused.byte = byte;
+    x->last_refused.file = x->file;
+    x->last_refused.line = x->line;
     if (x->first_refused.why == XOSERA_DONE) {
         x->first_refused = x->last_refused;
     }
@@ -546,7 +573,8 @@ static inline void xosera_note(xosera *x, uint8_t refusal, xosera_call call, uin
 /* Up to n words of blitting, one word, a tenth of a millisecond, the end of a frame, the line. */
 static inline uint64_t xosera_run(xosera *x, uint64_t n)
 {
-    const xosera_blit_answer a = xosera_blit_run(x->state, x->vram, x->vram_len, x->xr, x->xr_len, n);
+    const xosera_blit_answer a =
+        xosera_blit_run(x->state, x->vram, x->vram_len, x->xr, x->xr_len, n);
     x->state = a.state;
     xosera_note(x, a.refusal, XOSERA_CALL_RUN, 0, false, 0);
     return a.count;
@@ -734,41 +762,51 @@ static inline xosera *xosera_here(void)
     return xosera_in_use;
 }
 
+/* The adapter in use, which takes down the line of source. */
+static inline xosera *xosera_at(const char *file, int line)
+{
+    xosera *const x = xosera_here();
+    x->file = file;
+    x->line = line;
+    return x;
+}
+#define XOSERA_HERE xosera_at(__FILE__, __LINE__)
+
 /* Main registers. */
-#define xm_setbh(xmreg, high) xosera_set_byte(xosera_here(), XM_##xmreg, false, (uint8_t)(high))
-#define xm_setbl(xmreg, low)  xosera_set_byte(xosera_here(), XM_##xmreg, true, (uint8_t)(low))
-#define xm_setw(xmreg, word)  xosera_setw(xosera_here(), XM_##xmreg, (uint16_t)(word))
-#define xm_setl(xmreg, lword) xosera_setl(xosera_here(), XM_##xmreg, (uint32_t)(lword))
-#define xm_getbh(xmreg)       xosera_get_byte(xosera_here(), XM_##xmreg, false)
-#define xm_getbl(xmreg)       xosera_get_byte(xosera_here(), XM_##xmreg, true)
-#define xm_getw(xmreg)        xosera_getw(xosera_here(), XM_##xmreg)
-#define xm_getl(xmreg)        xosera_getl(xosera_here(), XM_##xmreg)
+#define xm_setbh(xmreg, high) xosera_set_byte(XOSERA_HERE, XM_##xmreg, false, (uint8_t)(high))
+#define xm_setbl(xmreg, low)  xosera_set_byte(XOSERA_HERE, XM_##xmreg, true, (uint8_t)(low))
+#define xm_setw(xmreg, word)  xosera_setw(XOSERA_HERE, XM_##xmreg, (uint16_t)(word))
+#define xm_setl(xmreg, lword) xosera_setl(XOSERA_HERE, XM_##xmreg, (uint32_t)(lword))
+#define xm_getbh(xmreg)       xosera_get_byte(XOSERA_HERE, XM_##xmreg, false)
+#define xm_getbl(xmreg)       xosera_get_byte(XOSERA_HERE, XM_##xmreg, true)
+#define xm_getw(xmreg)        xosera_getw(XOSERA_HERE, XM_##xmreg)
+#define xm_getl(xmreg)        xosera_getl(XOSERA_HERE, XM_##xmreg)
 
 /* XR registers by name; the `_next` forms go on at the address after. */
-#define xreg_setw(xreg, word) xosera_xr_setw(xosera_here(), XR_##xreg, (uint16_t)(word))
-#define xreg_getw(xreg)       xosera_xr_getw(xosera_here(), XR_##xreg)
-#define xreg_setw_next(word)  xosera_setw(xosera_here(), XM_XDATA, (uint16_t)(word))
-#define xreg_getw_next()      xosera_getw(xosera_here(), XM_XDATA)
+#define xreg_setw(xreg, word) xosera_xr_setw(XOSERA_HERE, XR_##xreg, (uint16_t)(word))
+#define xreg_getw(xreg)       xosera_xr_getw(XOSERA_HERE, XR_##xreg)
+#define xreg_setw_next(word)  xosera_setw(XOSERA_HERE, XM_XDATA, (uint16_t)(word))
+#define xreg_getw_next()      xosera_getw(XOSERA_HERE, XM_XDATA)
 
 /* XR memory by address. */
-#define xmem_setw(xaddr, word)     xosera_xr_setw(xosera_here(), (uint16_t)(xaddr), (uint16_t)(word))
-#define xmem_getw(xaddr)           xosera_xr_getw(xosera_here(), (uint16_t)(xaddr))
-#define xmem_setw_next_addr(xaddr) xosera_setw(xosera_here(), XM_WR_XADDR, (uint16_t)(xaddr))
-#define xmem_getw_next_addr(xaddr) xosera_setw(xosera_here(), XM_RD_XADDR, (uint16_t)(xaddr))
-#define xmem_setw_next(word)       xosera_setw(xosera_here(), XM_XDATA, (uint16_t)(word))
-#define xmem_getw_next()           xosera_getw(xosera_here(), XM_XDATA)
+#define xmem_setw(xaddr, word)     xosera_xr_setw(XOSERA_HERE, (uint16_t)(xaddr), (uint16_t)(word))
+#define xmem_getw(xaddr)           xosera_xr_getw(XOSERA_HERE, (uint16_t)(xaddr))
+#define xmem_setw_next_addr(xaddr) xosera_setw(XOSERA_HERE, XM_WR_XADDR, (uint16_t)(xaddr))
+#define xmem_getw_next_addr(xaddr) xosera_setw(XOSERA_HERE, XM_RD_XADDR, (uint16_t)(xaddr))
+#define xmem_setw_next(word)       xosera_setw(XOSERA_HERE, XM_XDATA, (uint16_t)(word))
+#define xmem_getw_next()           xosera_getw(XOSERA_HERE, XM_XDATA)
 
 /* VRAM by address; the `_next` forms go on by XM_WR_INCR or XM_RD_INCR. */
-#define vram_setw(addr, word)     xosera_vram_setw(xosera_here(), (uint16_t)(addr), (uint16_t)(word))
-#define vram_setl(addr, lword)    xosera_vram_setl(xosera_here(), (uint16_t)(addr), (uint32_t)(lword))
-#define vram_getw(addr)           xosera_vram_getw(xosera_here(), (uint16_t)(addr))
-#define vram_getl(addr)           xosera_vram_getl(xosera_here(), (uint16_t)(addr))
-#define vram_setw_next_addr(addr) xosera_setw(xosera_here(), XM_WR_ADDR, (uint16_t)(addr))
-#define vram_getw_next_addr(addr) xosera_setw(xosera_here(), XM_RD_ADDR, (uint16_t)(addr))
-#define vram_setw_next(word)      xosera_setw(xosera_here(), XM_DATA, (uint16_t)(word))
-#define vram_setl_next(lword)     xosera_setl(xosera_here(), XM_DATA, (uint32_t)(lword))
-#define vram_getw_next()          xosera_getw(xosera_here(), XM_DATA)
-#define vram_getl_next()          xosera_getl(xosera_here(), XM_DATA)
+#define vram_setw(addr, word)     xosera_vram_setw(XOSERA_HERE, (uint16_t)(addr), (uint16_t)(word))
+#define vram_setl(addr, lword)    xosera_vram_setl(XOSERA_HERE, (uint16_t)(addr), (uint32_t)(lword))
+#define vram_getw(addr)           xosera_vram_getw(XOSERA_HERE, (uint16_t)(addr))
+#define vram_getl(addr)           xosera_vram_getl(XOSERA_HERE, (uint16_t)(addr))
+#define vram_setw_next_addr(addr) xosera_setw(XOSERA_HERE, XM_WR_ADDR, (uint16_t)(addr))
+#define vram_getw_next_addr(addr) xosera_setw(XOSERA_HERE, XM_RD_ADDR, (uint16_t)(addr))
+#define vram_setw_next(word)      xosera_setw(XOSERA_HERE, XM_DATA, (uint16_t)(word))
+#define vram_setl_next(lword)     xosera_setl(XOSERA_HERE, XM_DATA, (uint32_t)(lword))
+#define vram_getw_next()          xosera_getw(XOSERA_HERE, XM_DATA)
+#define vram_getl_next()          xosera_getl(XOSERA_HERE, XM_DATA)
 
 /* The `_wait` forms wait for contended memory; the model's memory is always ready. */
 #define xmem_setw_wait(xaddr, word) xmem_setw(xaddr, word)
@@ -783,10 +821,10 @@ static inline xosera *xosera_here(void)
 /* Waiting does the work that the board does meanwhile, and so always ends: the blits run, the frame
  * ends. */
 #define xwait_mem_ready()  ((void)0)
-#define xwait_blit_done()  xosera_wait_blit_done(xosera_here())
-#define xwait_blit_ready() xosera_wait_blit_ready(xosera_here())
+#define xwait_blit_done()  xosera_wait_blit_done(XOSERA_HERE)
+#define xwait_blit_ready() xosera_wait_blit_ready(XOSERA_HERE)
 #define xwait_not_vblank() ((void)0)
-#define xwait_vblank()     xosera_frame(xosera_here())
+#define xwait_vblank()     xosera_frame(XOSERA_HERE)
 
 /* The board's macro that loads the register base; the model has none. */
 #define xv_prep() ((void)0)

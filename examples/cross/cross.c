@@ -5,9 +5,9 @@
  *
  * The cross, with the pair of marks that says which way to turn, lies in VRAM as a picture of even
  * width. It is drawn at pixel X, Y of the field, cropped on its right to WIDTH pixels, odd or even.
- * The field is printed and, with FILE, written as a PNM picture. -f adds last spring's fault, a crop
- * that leaves the right edge mask as it was: the field before (X lit and o dark where it is wrong),
- * the wrong pixels, and the field after.
+ * The field is printed and, with FILE, written as a PNM picture. -f adds last spring's fault, a
+ * crop that leaves the right edge mask as it was: the field before (X lit and o dark where it is
+ * wrong), the wrong pixels, and the field after.
  */
 #include <stdio.h>
 #include <stdlib.h>
@@ -19,13 +19,6 @@ enum { FIELD_W = 48, FIELD_H = 11, CROSS_H = 9, PITCH = FIELD_W / 4 /* words a l
 enum { FIELD = 0x0000, FAULTY = 0x2000, PICTURE = 0x4000 /* VRAM addresses */ };
 
 static uint16_t vram[XOSERA_VRAM_MAX], xr[XOSERA_XR_WORDS];
-
-static void stop(xosera *x, const xosera_refused *what)
-{
-    (void)x;
-    fprintf(stderr, "cross: register %d refused: %s\n", what->reg, xosera_refusal_text(what->why));
-    exit(1);
-}
 
 /* Both arms, and at the right end one mark above and one below, three pixels wide. */
 static int inked(int column, int row, int width)
@@ -81,7 +74,8 @@ static void put_field(FILE *to, int field, const char *ink)
 {
     for (int y = 0; y < FIELD_H; y++) {
         for (int x = 0; x < FIELD_W; x++) {
-            const int lit = pixel(field, x, y) != 0, wrong = pixel(field, x, y) != pixel(FIELD, x, y);
+            const int lit = pixel(field, x, y) != 0;
+            const int wrong = pixel(field, x, y) != pixel(FIELD, x, y);
             fputc(ink[lit + 2 * wrong], to);
         }
         fputc('\n', to);
@@ -118,7 +112,7 @@ int main(int argc, char **argv)
 
     xosera adapter;
     xosera_attach(&adapter, vram, XOSERA_VRAM_MAX, xr, XOSERA_XR_WORDS);
-    adapter.on_refusal = stop;
+    adapter.on_refusal = xosera_abort_on_refusal;
     xosera_use(&adapter);
 
     store_picture(even);

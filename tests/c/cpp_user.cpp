@@ -1,5 +1,5 @@
-// The header as C++17, on the adapter that the C side put in use. The number of the first check that
-// does not hold, or 0.
+// The header as C++17, on the adapter that the C side put in use. The number of the first check
+// that does not hold, or 0.
 #include "xosera_model.h"
 
 #include "board_code.h"

@@ -3,8 +3,8 @@
 static void fail_test(xosera *x, const xosera_refused *what)
 {
     (void)x;
-    fail_msg("call %d refused at register %d: %s", (int)what->call, (int)what->reg,
-             xosera_refusal_text(what->why));
+    fail_msg("%s:%d: call %d refused at register %d: %s", what->file != NULL ? what->file : "",
+             what->line, (int)what->call, (int)what->reg, xosera_refusal_text(what->why));
 }
 
 void fill(uint16_t *words, size_t n, uint16_t seed)

@@ -16,7 +16,7 @@ static void bytes_words_and_longs(void **state)
     assert_int_equal(xm_getbl(WR_ADDR), 0x34);
     xm_setbl(WR_ADDR, 0x56);
     assert_int_equal(xm_getw(WR_ADDR), 0x1256); /* the latch stays */
-    xm_setl(WR_INCR, 0x00010100); /* WR_INCR, then WR_ADDR */
+    xm_setl(WR_INCR, 0x00010100);               /* WR_INCR, then WR_ADDR */
     assert_int_equal(xm_getl(WR_INCR), 0x00010100);
     xm_setl(DATA, 0xCAFED00D);
     assert_int_equal(x->vram[0x100], 0xCAFE);

@@ -34,8 +34,8 @@ static int last_mask(int offset, int width)
 }
 
 /* One blit on a fresh field: its VRAM against `want`. */
-static void compare(xosera *x, const uint16_t *before, const blit *b, const uint16_t *want, int offset,
-                    int width)
+static void compare(xosera *x, const uint16_t *before, const blit *b, const uint16_t *want,
+                    int offset, int width)
 {
     memcpy(x->vram, before, x->vram_len * sizeof before[0]);
     start_blit(x, b);
@@ -134,8 +134,8 @@ static void transparent_copies_end_on_the_pixel(void **state)
     every_edge((xosera *)*state, copy_transparent);
 }
 
-/* Last spring's fault: cropped by one pixel to an odd width, the right mask left as it was. The model
- * shows exactly the column that should have gone, in every line. */
+/* Last spring's fault: cropped by one pixel to an odd width, the right mask left as it was. The
+ * model shows exactly the column that should have gone, in every line. */
 static void a_stale_right_mask_shows(void **state)
 {
     xosera *x = (xosera *)*state;

@@ -6,6 +6,7 @@ typedef struct field {
     size_t at, size;
 } field;
 
+/* clang-format off */
 #define FIELD(path) {#path, offsetof(xosera_state, path), sizeof(((xosera_state *)0)->path)}
 
 static const field fields[] = {
@@ -26,6 +27,7 @@ static const field fields[] = {
     FIELD(engine.regs.dst_d),    FIELD(engine.regs.shift),      FIELD(engine.regs.lines),
     FIELD(engine.regs.words),    FIELD(queued),                 FIELD(status),
 };
+/* clang-format on */
 enum { FIELDS = sizeof fields / sizeof fields[0], PADDING = 4 };
 
 void assert_state_equal(const xosera_state *got, const xosera_state *want)
@@ -121,79 +123,101 @@ static xosera_state in_range(void)
 /* Each field by a call that reads or changes it alone: `want` is `s` with the field changed by its
  * name in the header, and must be what the library returns, in every other field too. */
 
-static xosera_state write_odd(xosera *x, const xosera_state *s, uint8_t reg, uint8_t byte)
+static void expect_write(xosera *x, const xosera_state *s, uint8_t reg, uint8_t byte,
+                         const xosera_state *want)
 {
     x->state = *s;
     xosera_set_byte(x, reg, true, byte);
-    return x->state;
+    assert_state_equal(&x->state, want);
+}
+
+/* The word that an odd write forms. */
+static uint16_t formed(const xosera_state *s, uint8_t reg, uint8_t byte)
+{
+    return (uint16_t)(s->host.latch[reg] << 8 | byte);
+}
+
+static void latches_are_in_their_place(void **state)
+{
+    xosera *x = (xosera *)*state;
+    for (uint8_t reg = 0; reg < 16; reg++) {
+        xosera_state want = in_range();
+        x->state = want;
+        xosera_set_byte(x, reg, false, 0xEE);
+        want.host.latch[reg] = 0xEE;
+        assert_state_equal(&x->state, &want);
+    }
 }
 
 static void main_registers_are_in_their_place(void **state)
 {
     xosera *x = (xosera *)*state;
-    xosera_state s = in_range(), want, got;
-    for (uint8_t reg = 0; reg < 16; reg++) {
-        x->state = want = s;
-        xosera_set_byte(x, reg, false, 0xEE);
-        want.host.latch[reg] = 0xEE;
-        assert_state_equal(&x->state, &want);
-    }
+    xosera_state s = in_range(), want;
 
-    want = s, want.host.vram.wr_mask = 0x6;
-    got = write_odd(x, &s, XM_SYS_CTRL, 0xF6);
-    assert_state_equal(&got, &want);
+    want = s;
+    want.host.vram.wr_mask = 0x6;
+    expect_write(x, &s, XM_SYS_CTRL, 0xF6, &want);
 
     s.host.latch[XM_INT_CTRL] = 0x61;
-    want = s, want.host.int_mask = 0x61, want.status = 0x04;
-    got = write_odd(x, &s, XM_INT_CTRL, 0x01);
-    assert_state_equal(&got, &want);
+    want = s;
+    want.host.int_mask = 0x61;
+    want.status = 0x04;
+    expect_write(x, &s, XM_INT_CTRL, 0x01, &want);
 
-    want = s, want.host.timer.countdown = want.host.timer.interval =
-                  (uint16_t)(s.host.latch[XM_TIMER] << 8 | 0xE2);
-    got = write_odd(x, &s, XM_TIMER, 0xE2);
-    assert_state_equal(&got, &want);
+    want = s;
+    want.host.timer.countdown = formed(&s, XM_TIMER, 0xE2);
+    want.host.timer.interval = formed(&s, XM_TIMER, 0xE2);
+    expect_write(x, &s, XM_TIMER, 0xE2, &want);
 
     s.host.latch[XM_RD_XADDR] = XR_TILE_ADDR >> 8;
-    want = s, want.host.xr.rd_xaddr.word = XR_TILE_ADDR + 0xE3, want.host.xr.rd_xdata = x->xr[0xE3];
-    got = write_odd(x, &s, XM_RD_XADDR, 0xE3);
-    assert_state_equal(&got, &want);
+    want = s;
+    want.host.xr.rd_xaddr.word = XR_TILE_ADDR + 0xE3;
+    want.host.xr.rd_xdata = x->xr[0xE3];
+    expect_write(x, &s, XM_RD_XADDR, 0xE3, &want);
 
-    want = s, want.host.xr.wr_xaddr.word = (uint16_t)(s.host.latch[XM_WR_XADDR] << 8 | 0xE4);
-    got = write_odd(x, &s, XM_WR_XADDR, 0xE4);
-    assert_state_equal(&got, &want);
+    want = s;
+    want.host.xr.wr_xaddr.word = formed(&s, XM_WR_XADDR, 0xE4);
+    expect_write(x, &s, XM_WR_XADDR, 0xE4, &want);
 
-    want = s, want.host.vram.rd_incr = (uint16_t)(s.host.latch[XM_RD_INCR] << 8 | 0xE6);
-    got = write_odd(x, &s, XM_RD_INCR, 0xE6);
-    assert_state_equal(&got, &want);
+    want = s;
+    want.host.vram.rd_incr = formed(&s, XM_RD_INCR, 0xE6);
+    expect_write(x, &s, XM_RD_INCR, 0xE6, &want);
 
     s.host.latch[XM_RD_ADDR] = 0x01;
-    want = s, want.host.vram.rd_addr.word = 0x01E7, want.host.vram.rd_data = x->vram[0x1E7];
-    got = write_odd(x, &s, XM_RD_ADDR, 0xE7);
-    assert_state_equal(&got, &want);
+    want = s;
+    want.host.vram.rd_addr.word = 0x01E7;
+    want.host.vram.rd_data = x->vram[0x1E7];
+    expect_write(x, &s, XM_RD_ADDR, 0xE7, &want);
 
-    want = s, want.host.vram.wr_incr = (uint16_t)(s.host.latch[XM_WR_INCR] << 8 | 0xE8);
-    got = write_odd(x, &s, XM_WR_INCR, 0xE8);
-    assert_state_equal(&got, &want);
+    want = s;
+    want.host.vram.wr_incr = formed(&s, XM_WR_INCR, 0xE8);
+    expect_write(x, &s, XM_WR_INCR, 0xE8, &want);
 
-    want = s, want.host.vram.wr_addr.word = (uint16_t)(s.host.latch[XM_WR_ADDR] << 8 | 0xE9);
-    got = write_odd(x, &s, XM_WR_ADDR, 0xE9);
-    assert_state_equal(&got, &want);
+    want = s;
+    want.host.vram.wr_addr.word = formed(&s, XM_WR_ADDR, 0xE9);
+    expect_write(x, &s, XM_WR_ADDR, 0xE9, &want);
 
-    want = s, want.host.vram.wr_addr.word =
-                  (uint16_t)(s.host.vram.wr_addr.word + s.host.vram.wr_incr);
-    got = write_odd(x, &s, XM_DATA, 0xEA);
-    assert_state_equal(&got, &want);
+    want = s;
+    want.host.vram.wr_addr.word = (uint16_t)(s.host.vram.wr_addr.word + s.host.vram.wr_incr);
+    expect_write(x, &s, XM_DATA, 0xEA, &want);
 }
 
 static void main_registers_are_read_from_their_place(void **state)
 {
     xosera *x = (xosera *)*state;
     const xosera_state s = in_range();
-    const uint16_t words[12] = {
-        (uint16_t)(0x2000 | s.host.vram.wr_mask), (uint16_t)(s.host.int_mask << 8 | s.status),
-        s.host.timer.count, s.host.xr.rd_xaddr.word, s.host.xr.wr_xaddr.word, s.host.xr.rd_xdata,
-        s.host.vram.rd_incr, s.host.vram.rd_addr.word, s.host.vram.wr_incr,
-        s.host.vram.wr_addr.word, s.host.vram.rd_data, s.host.vram.rd_data};
+    const uint16_t words[12] = {(uint16_t)(0x2000 | s.host.vram.wr_mask),
+                                (uint16_t)(s.host.int_mask << 8 | s.status),
+                                s.host.timer.count,
+                                s.host.xr.rd_xaddr.word,
+                                s.host.xr.wr_xaddr.word,
+                                s.host.xr.rd_xdata,
+                                s.host.vram.rd_incr,
+                                s.host.vram.rd_addr.word,
+                                s.host.vram.wr_incr,
+                                s.host.vram.wr_addr.word,
+                                s.host.vram.rd_data,
+                                s.host.vram.rd_data};
     for (uint8_t reg = 0; reg < 12; reg++) {
         x->state = s;
         assert_int_equal(xosera_getw(x, reg), words[reg]);
@@ -310,16 +334,14 @@ static void xr_registers_are_in_their_place(void **state)
         if (xaddr == XR_BLIT_WORDS) {
             want.queued = true;
         }
-        const xosera_state got = write_odd(x, &s, XM_XDATA, 0xEE);
-        assert_state_equal(&got, &want);
+        expect_write(x, &s, XM_XDATA, 0xEE, &want);
 
         want = s;
         want.host.latch[XM_RD_XADDR] = s.host.latch[XM_RD_XADDR] = 0;
         want.host.xr.rd_xaddr.word = xaddr;
         want.host.xr.rd_xdata =
             xr_field(&s, xaddr) != NULL && reads_back(xaddr) ? *xr_field(&s, xaddr) : 0;
-        const xosera_state read = write_odd(x, &s, XM_RD_XADDR, (uint8_t)xaddr);
-        assert_state_equal(&read, &want);
+        expect_write(x, &s, XM_RD_XADDR, (uint8_t)xaddr, &want);
     }
 }
 
@@ -339,8 +361,7 @@ static void the_engine_is_in_its_place(void **state)
     want.engine.running = true;
     want.engine.regs = want.blit;
     want.engine.regs.lines &= 0x7FFF;
-    const xosera_state started = write_odd(x, &s, XM_XDATA, 0xEE);
-    assert_state_equal(&started, &want);
+    expect_write(x, &s, XM_XDATA, 0xEE, &want);
 
     /* A step in mid-line moves word, source and destination on, and keeps the source word. */
     s = in_range();
@@ -418,6 +439,7 @@ int layout_group(int *tests)
         cmocka_unit_test(the_table_names_every_byte_once),
         cmocka_unit_test(every_byte_passes_through_every_call),
         cmocka_unit_test(reset_is_as_the_header_says),
+        WITH_ADAPTER(latches_are_in_their_place),
         WITH_ADAPTER(main_registers_are_in_their_place),
         WITH_ADAPTER(main_registers_are_read_from_their_place),
         cmocka_unit_test(timer_and_status_are_in_their_place),

@@ -13,11 +13,13 @@ typedef struct event {
     uint8_t byte;
 } event;
 
+/* clang-format off */
 /* A word written is its even and its odd byte; likewise a word read. */
 #define W(reg, word) {WRITE, reg, false, (word) >> 8}, {WRITE, reg, true, (word) & 0xFF}
 #define R(reg)       {READ, reg, false, 0}, {READ, reg, true, 0}
 
-/* No event starts a blit, touches a word that this one reads or writes, or loads one that it writes. */
+/* No event starts a blit, stores to a word that this one reads or writes, or loads one that it
+ * writes. */
 static const event events[] = {
     R(XM_SYS_CTRL), W(XM_SYS_CTRL, 0x000B), W(XM_WR_INCR, 0x0003), W(XM_WR_ADDR, ELSEWHERE),
     W(XM_DATA, 0x1234), W(XM_DATA_2, 0x5678), {TICK, 0, false, 0}, R(XM_INT_CTRL),
@@ -27,13 +29,14 @@ static const event events[] = {
     W(XM_INT_CTRL, 0x8000), /* refused */
     {WRITE, 16, true, 1}, {READ, 200, false, 0}, /* refused */
     W(XM_WR_XADDR, XR_BLIT_CTRL), W(XM_XDATA, 0xFFFF), W(XM_XDATA, 0xFFFF), W(XM_XDATA, 0xFFFF),
-    W(XM_WR_XADDR, XR_BLIT_SHIFT), W(XM_XDATA, 0x0003), W(XM_XDATA, 0x0100), /* not the running one's */
+    W(XM_WR_XADDR, XR_BLIT_SHIFT), W(XM_XDATA, 0x0003), W(XM_XDATA, 0x0100),
     W(XM_WR_XADDR, XR_COLOR_ADDR + 0x1FF), W(XM_XDATA, 0xABCD), W(XM_XDATA, 0xDCBA),
     W(XM_RD_XADDR, XR_COLOR_ADDR + 0x1FF), R(XM_XDATA), R(XM_XDATA),
     W(XM_WR_XADDR, XR_SCANLINE), W(XM_XDATA, 0), W(XM_TIMER, 2), {TICK, 0, false, 0},
     {TICK, 0, false, 0}, {TICK, 0, false, 0}, R(XM_TIMER), W(0xC, 0xFFFF), R(0xC), R(XM_SYS_CTRL),
     R(XM_INT_CTRL), {LINE, 0, false, 0},
 };
+/* clang-format on */
 enum { EVENTS = sizeof events / sizeof events[0] };
 
 typedef struct answer {
@@ -84,7 +87,7 @@ static void start(xosera *x)
                           .words = WORDS - 1});
 }
 
-/* `steps` words are done before every `every`-th event; what is missing at the end follows there. */
+/* `steps` words are done before every `every`-th event; what is left is done at the end. */
 static void interleaved(int steps, int every, bool by_run)
 {
     xosera *whole = adapter_new(VRAM_LEN), *x = adapter_new(VRAM_LEN);

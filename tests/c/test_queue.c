@@ -1,8 +1,10 @@
 /* A blit in progress and one queued: busy, full, what waits and what follows. */
 #include "tests.h"
 
-static const blit four_words = {.ctrl = 1, .src_s = 0x1111, .dst_d = 0x40, .shift = 0xFF00, .words = 3};
-static const blit two_words = {.ctrl = 1, .src_s = 0x2222, .dst_d = 0x80, .shift = 0xFF00, .words = 1};
+static const blit four_words = {
+    .ctrl = 1, .src_s = 0x1111, .dst_d = 0x40, .shift = 0xFF00, .words = 3};
+static const blit two_words = {
+    .ctrl = 1, .src_s = 0x2222, .dst_d = 0x80, .shift = 0xFF00, .words = 1};
 
 static void flags_follow_the_queue(void **state)
 {
@@ -17,7 +19,8 @@ static void flags_follow_the_queue(void **state)
         assert_int_equal(xm_getbh(SYS_CTRL), SYS_CTRL_BLIT_BUSY_F | SYS_CTRL_BLIT_FULL_F);
         assert_int_equal(xm_getbl(INT_CTRL), 0);
     }
-    assert_int_equal(xosera_step(x), 1); /* the last word: the queued blit starts in the same step */
+    /* The last word: the queued blit starts in the same step. */
+    assert_int_equal(xosera_step(x), 1);
     assert_int_equal(xm_getbh(SYS_CTRL), SYS_CTRL_BLIT_BUSY_F);
     assert_int_equal(xm_getbl(INT_CTRL), INT_CTRL_BLIT_INTR_F);
     xm_setw(INT_CTRL, INT_CTRL_BLIT_INTR_F);

@@ -22,7 +22,8 @@ static void all_refuse(xosera *x, lent n, uint8_t reg, int want)
             xosera_write_byte(s, x->vram, n.vram, x->xr, n.xr, reg, odd != 0, 0xA5);
         assert_int_equal(w.refusal, want);
         assert_state_equal(&w.state, &s);
-        const xosera_read_answer r = xosera_read_byte(s, x->vram, n.vram, x->xr, n.xr, reg, odd != 0);
+        const xosera_read_answer r =
+            xosera_read_byte(s, x->vram, n.vram, x->xr, n.xr, reg, odd != 0);
         assert_int_equal(r.refusal, want);
         assert_int_equal(r.byte, 0);
         assert_state_equal(&r.state, &s);
@@ -277,6 +278,15 @@ static void a_hook_can_stop_the_test(void **state)
     adapter_free(x);
 }
 
+static void a_refusal_names_its_line(void **state)
+{
+    xosera *x = (xosera *)*state;
+    x->on_refusal = NULL;
+    xm_setw(INT_CTRL, INT_CTRL_RECONFIG_F);
+    assert_int_equal(x->first_refused.line, __LINE__ - 1);
+    assert_string_equal(x->first_refused.file, __FILE__);
+}
+
 int refusals_group(int *tests)
 {
     const struct CMUnitTest list[] = {
@@ -288,6 +298,7 @@ int refusals_group(int *tests)
         cmocka_unit_test(refusal_6_reconfigure),
         cmocka_unit_test(the_handle_keeps_the_first_refusal),
         cmocka_unit_test(a_hook_can_stop_the_test),
+        WITH_ADAPTER(a_refusal_names_its_line),
     };
     return RUN_GROUP("refusals", list, tests);
 }

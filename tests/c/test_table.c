@@ -126,7 +126,8 @@ static void countdown_of_two(void **state)
     for (int tick = 1; tick <= 5; tick++) {
         xosera_tick((xosera *)*state);
         const int due = tick == 2 || tick == 4;
-        assert_int_equal(xm_getw(INT_CTRL) & INT_CTRL_TIMER_INTR_F, due ? INT_CTRL_TIMER_INTR_F : 0);
+        assert_int_equal(xm_getw(INT_CTRL) & INT_CTRL_TIMER_INTR_F,
+                         due ? INT_CTRL_TIMER_INTR_F : 0);
         xm_setw(INT_CTRL, INT_CTRL_TIMER_INTR_F);
     }
 }

@@ -1,8 +1,7 @@
-//! The adapter of document 01, written down a second time.
+//! The adapter of document 01 a second time, in plain Rust.
 //!
-//! This crate shares nothing with the library: it was written from document 01 alone, a chapter to a
-//! module, and says everything in the plainest way, nibble by nibble. The crate `compare` runs both
-//! side by side.
+//! This crate shares nothing with the library. It follows document 01 alone, a chapter to a module, and
+//! says everything in the plainest way, nibble by nibble. The crate `compare` runs both side by side.
 
 mod blitter;
 mod host;
