@@ -1,7 +1,6 @@
 //! One call to the library and to the plain Rust model, from the same state and memories.
 
 use std::fmt;
-use std::ops::Range;
 
 use crate::convert::{differences, to_model};
 use crate::random::Random;
@@ -51,8 +50,8 @@ impl Memory {
         &mut self.words[MARGIN..MARGIN + n]
     }
 
-    fn room(&self) -> Range<usize> {
-        0..self.words.len() - 2 * MARGIN
+    fn room(&self) -> usize {
+        self.words.len() - 2 * MARGIN
     }
 }
 
@@ -189,8 +188,8 @@ impl Pair {
     /// The largest memories that can be lent.
     pub fn room(&self) -> Lent {
         Lent {
-            vram: self.library_vram.room().end,
-            xr: self.library_xr.room().end,
+            vram: self.library_vram.room(),
+            xr: self.library_xr.room(),
         }
     }
 }
