@@ -19,8 +19,6 @@ LIB := target/staticlib/libfirmware.a
 endif
 export XOSERA_LIB_DIR
 
-CC       ?= gcc
-CXX      ?= g++
 WARN     := -Wall -Wextra -Wpedantic -Werror
 CFLAGS   := -std=c11 -O1 -gdwarf-4 $(WARN) -Iinclude
 CXXFLAGS := -std=c++17 -O1 -gdwarf-4 $(WARN) -Iinclude

@@ -19,7 +19,7 @@ struct Tally {
     kinds: [u64; 8],
     refusals: [u64; 7],
     lengths: [u64; 9],
-    edges: [u64; 32],
+    edges: Vec<u64>,
     words: u64,
     shifted: u64,
     constant: u64,
@@ -212,7 +212,10 @@ fn library_and_model_agree() {
         "random calls: seed {} (XOSERA_SEED={} gives them again)",
         seed, seed
     );
-    let mut tally = Tally::default();
+    let mut tally = Tally {
+        edges: vec![0; XR_EDGES.len()],
+        ..Tally::default()
+    };
     let mut seeds = Random::new(seed);
     let mut done = 0;
     let mut episodes = 0;
