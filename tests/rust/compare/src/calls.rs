@@ -16,6 +16,9 @@ pub const XR_EDGES: [u16; 40] = [
     0x7FFF, 0x8000, 0x81FF, 0x8200, 0xBFFF, 0xC000, 0xC3FF, 0xC400, 0xC7FF, 0xFFFF,
 ];
 
+/// The most lines less one, as copied.
+const MOST_LINES: u16 = 32767;
+
 /// Words that a run may have to do at most.
 const LONGEST_RUN: u64 = 20_000;
 
@@ -333,12 +336,13 @@ impl Calls {
         masks | unused | self.random.below(4) as u16
     }
 
-    /// `LINES`: few, with bit 15 or without it, seldom any number.
+    /// `LINES`: few, with bit 15 or without it, seldom the most there are or any number.
     fn blit_lines(&mut self) -> u16 {
         let few = self.random.below(4) as u16;
         match self.random.below(100) {
-            0 => self.random.word(),
-            1..=25 => few | 0x8000,
+            0 => self.random.pick(&[MOST_LINES, 0xFFFF, 0x7FFE]),
+            1 => self.random.word(),
+            2..=25 => few | 0x8000,
             _ => few,
         }
     }
@@ -392,7 +396,13 @@ impl Calls {
         };
         if s.engine.running {
             let e = &mut s.engine;
-            e.regs.lines &= 0x7FFF;
+            e.regs.lines &= MOST_LINES;
+            if r.one_in(4) {
+                e.regs.lines = MOST_LINES;
+            }
+            if r.one_in(8) {
+                e.regs.words = 0xFFFF;
+            }
             e.line = e.regs.lines - (r.below(4) as u16).min(e.regs.lines);
             e.word = e.regs.words - (r.below(4) as u16).min(e.regs.words);
             if r.flip() {

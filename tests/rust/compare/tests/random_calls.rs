@@ -1,6 +1,6 @@
 //! The library against the plain Rust model, call by call.
 //!
-//! XOSERA_CALLS=n   how many calls (2,000,000 unless set)
+//! XOSERA_CALLS=n   how many calls (4,000,000 unless set)
 //! XOSERA_SEED=n    the calls of an earlier run again (from the clock unless set)
 
 use compare::calls::{Calls, VRAM_LENGTHS, XR_EDGES};
@@ -207,7 +207,7 @@ fn episode(calls: &mut Calls, tally: &mut Tally, length: usize, n: u64) -> Resul
 #[test]
 fn library_and_model_agree() {
     let seed = seed();
-    let wanted = number("XOSERA_CALLS").unwrap_or(2_000_000);
+    let wanted = number("XOSERA_CALLS").unwrap_or(4_000_000);
     println!(
         "random calls: seed {} (XOSERA_SEED={} gives them again)",
         seed, seed
