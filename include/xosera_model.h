@@ -313,6 +313,7 @@ typedef struct xosera_state_answer {
 } xosera_state_answer;
 
 typedef struct xosera_line_answer {
+    xosera_state state;
     uint8_t refusal;
     bool up;
 } xosera_line_answer;
@@ -404,9 +405,9 @@ XOSERA_AT(xosera_blit_answer, refusal, 132);
 XOSERA_AT(xosera_blit_answer, count, 136);
 XOSERA_SIZE(xosera_state_answer, 134);
 XOSERA_AT(xosera_state_answer, refusal, 132);
-XOSERA_SIZE(xosera_line_answer, 2);
-XOSERA_AT(xosera_line_answer, refusal, 0);
-XOSERA_AT(xosera_line_answer, up, 1);
+XOSERA_SIZE(xosera_line_answer, 134);
+XOSERA_AT(xosera_line_answer, refusal, 132);
+XOSERA_AT(xosera_line_answer, up, 133);
 
 #ifdef __cplusplus
 extern "C" {
@@ -605,6 +606,7 @@ static inline void xosera_frame(xosera *x)
 static inline bool xosera_line_up(xosera *x)
 {
     const xosera_line_answer a = xosera_interrupt_line(x->state);
+    x->state = a.state;
     xosera_note(x, a.refusal, XOSERA_CALL_LINE, 0, false, 0);
     return a.up;
 }

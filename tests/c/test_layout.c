@@ -102,7 +102,10 @@ static void every_byte_passes_through_every_call(void **state)
     const xosera_state_answer f = xosera_frame_end(s);
     assert_int_equal(f.refusal, XOSERA_STATE_RANGE);
     assert_state_equal(&f.state, &s);
-    assert_int_equal(xosera_interrupt_line(s).refusal, XOSERA_STATE_RANGE);
+    const xosera_line_answer l = xosera_interrupt_line(s);
+    assert_int_equal(l.refusal, XOSERA_STATE_RANGE);
+    assert_false(l.up);
+    assert_state_equal(&l.state, &s);
 }
 
 /* The same state brought into its ranges, the blitter running in mid-line; still all different. */
@@ -269,7 +272,10 @@ static void timer_and_status_are_in_their_place(void **state)
     assert_state_equal(&a.state, &want);
 
     s.host.int_mask = 0x04;
-    assert_true(xosera_interrupt_line(s).up);
+    const xosera_line_answer l = xosera_interrupt_line(s);
+    assert_int_equal(l.refusal, XOSERA_DONE);
+    assert_true(l.up);
+    assert_state_equal(&l.state, &s);
     s.host.int_mask = 0x7A;
     assert_false(xosera_interrupt_line(s).up);
 }

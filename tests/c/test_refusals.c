@@ -112,6 +112,7 @@ static void out_of_range(xosera *x, const char *what)
     const xosera_line_answer l = xosera_interrupt_line(s);
     assert_int_equal(l.refusal, XOSERA_STATE_RANGE);
     assert_false(l.up);
+    assert_state_equal(&l.state, &s);
 }
 
 #define OUT(x, start, field, value)                                                                \

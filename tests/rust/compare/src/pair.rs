@@ -230,7 +230,7 @@ pub fn on_library(
         }
         Call::Line => {
             let a = xosera::interrupt_line(s);
-            (s, said(a.refusal, u64::from(a.up)))
+            (a.state, said(a.refusal, u64::from(a.up)))
         }
     }
 }

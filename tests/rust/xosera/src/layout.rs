@@ -147,6 +147,7 @@ pub struct StateAnswer {
 #[repr(C)]
 #[derive(Clone, Copy, Debug, PartialEq, Eq)]
 pub struct LineAnswer {
+    pub state: State,
     pub refusal: u8,
     pub up: bool,
 }
