@@ -17,12 +17,14 @@ const ROUNDS: usize = 9;
 const WORDS: u64 = 65536;
 const CALLS: u64 = 100_000;
 
-/// The plain model called as the library is.
+/// The plain model called as the library is, by C's convention: the state is copied to the stack on the
+/// way in and to the caller's room on the way out.
+#[allow(improper_ctypes_definitions)]
 mod by_value {
     use model::State;
 
     #[inline(never)]
-    pub fn write_byte(
+    pub extern "C" fn write_byte(
         mut s: State,
         vram: &mut [u16],
         xr: &mut [u16],
@@ -35,19 +37,25 @@ mod by_value {
     }
 
     #[inline(never)]
-    pub fn read_byte(mut s: State, vram: &[u16], xr: &[u16], reg: u8, odd: bool) -> (State, u8) {
+    pub extern "C" fn read_byte(
+        mut s: State,
+        vram: &[u16],
+        xr: &[u16],
+        reg: u8,
+        odd: bool,
+    ) -> (State, u8) {
         let answer = s.read_byte(vram, xr, reg, odd);
         (s, answer.unwrap_or(0))
     }
 
     #[inline(never)]
-    pub fn blit_step(mut s: State, vram: &mut [u16], xr: &[u16]) -> (State, u64) {
+    pub extern "C" fn blit_step(mut s: State, vram: &mut [u16], xr: &[u16]) -> (State, u64) {
         let answer = s.blit_step(vram, xr);
         (s, answer.unwrap_or(0))
     }
 
     #[inline(never)]
-    pub fn blit_run(mut s: State, vram: &mut [u16], xr: &[u16], n: u64) -> (State, u64) {
+    pub extern "C" fn blit_run(mut s: State, vram: &mut [u16], xr: &[u16], n: u64) -> (State, u64) {
         let answer = s.blit_run(vram, xr, n);
         (s, answer.unwrap_or(0))
     }
