@@ -3,19 +3,23 @@
 //! Three columns of figures, in millions a second: the library; the plain model called as the library
 //! is, with the state going in and coming back by value; and the plain model changing its state in
 //! place. The ratio is that of the first two. All do the same work on memories of their own, and what
-//! they leave is compared, so none can leave any out. Each figure is the best of several rounds, the
-//! sides taking turns.
+//! they leave is compared, so none can leave any out. Each figure is the best of many rounds, the sides
+//! taking turns.
 
 use std::time::Instant;
 
 use compare::convert::to_model;
 
 const VRAM_WORDS: usize = 65536;
-const ROUNDS: usize = 9;
+
+/// Many short rounds: on a busy machine some of them are left alone.
+const ROUNDS: usize = 600;
 
 /// The blit's size: 256 lines of 256 words.
 const WORDS: u64 = 65536;
-const CALLS: u64 = 100_000;
+
+/// Single calls in a round.
+const CALLS: u64 = 4096;
 
 /// The plain model called as the library is, by C's convention: the state is copied to the stack on the
 /// way in and to the caller's room on the way out.
@@ -152,7 +156,7 @@ fn steps(name: &str, x: &xosera::Adapter) {
     let work: [Work; 3] = [
         |m| {
             let (mut s, mut count) = (m.start, 0);
-            for _ in 0..WORDS {
+            for _ in 0..CALLS {
                 let a = xosera::blit_step(s, &mut m.vram, &m.xr);
                 s = a.state;
                 count += a.count;
@@ -161,7 +165,7 @@ fn steps(name: &str, x: &xosera::Adapter) {
         },
         |m| {
             let (mut s, mut count) = (m.plain_start, 0);
-            for _ in 0..WORDS {
+            for _ in 0..CALLS {
                 let (after, done) = by_value::blit_step(s, &mut m.vram, &m.xr);
                 s = after;
                 count += done;
@@ -170,7 +174,7 @@ fn steps(name: &str, x: &xosera::Adapter) {
         },
         |m| {
             let (mut s, mut count) = (m.plain_start, 0);
-            for _ in 0..WORDS {
+            for _ in 0..CALLS {
                 count += s.blit_step(&mut m.vram, &m.xr).unwrap_or(0);
             }
             count
@@ -179,7 +183,7 @@ fn steps(name: &str, x: &xosera::Adapter) {
     compare(
         &format!("single steps, {}", name),
         "Mwords/s",
-        WORDS,
+        CALLS,
         x,
         work,
     );
