@@ -5,22 +5,24 @@ mod blit_rows;
 mod host_rows;
 mod queue_rows;
 mod report;
+mod table;
 
 use crate::bench::Vram;
 use crate::bench::Xr;
 
 // The fifteen rows over the memories lent, and how many were as they should be.
-fn table(vram: &mut Vram, xr: &mut Xr) {
+fn run(vram: &mut Vram, xr: &mut Xr) {
     report::put(b"case | should give | gave | verdict\n");
-    let blits = blit_rows::rows(vram, xr);
-    let hosts = host_rows::rows(vram, xr);
-    let queues = queue_rows::rows(vram, xr);
-    report::put_number(blits + hosts + queues);
+    let drawing = table::drawing(0, vram, xr);
+    let places = table::places(drawing, vram, xr);
+    let hosts = table::hosts(places, vram, xr);
+    let queues = table::queues(hosts, vram, xr);
+    report::put_number(queues);
     report::put(b" of 15 rows as they should be\n");
 }
 
 fn main() {
     let mut vram = [0u16; 256];
     let mut xr = [0u16; 6656];
-    table(&mut vram, &mut xr);
+    run(&mut vram, &mut xr);
 }
