@@ -2,3 +2,4 @@
 pub mod Lists
 pub mod Playing
 pub mod OrderOfCalls
+pub mod StepsOfCalls
