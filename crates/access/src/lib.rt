@@ -214,7 +214,11 @@ fn read_xdata(s: State, xr: &[u16]) -> State
     ensures { λ r. ⌜ ((v : List ℕ) → Performs readXdata s v (now (xr .entry)) r v (now (xr .entry))) ⌝ }
 {
     let h = s.host;
-    load_xr(s, xr, std::num::wrapping_add_u16(h.xr.rdxaddr.0, 1))
+    let a = std::num::wrapping_add_u16(h.xr.rdxaddr.0, 1);
+    let at = XrAddr(a);
+    let video = s.video;
+    let word = xr_space::xr_read(video, xr, at);
+    with_host(s, host::set_rd_xaddr(h, a, word))
 }
 
 // An odd read of XM_DATA: XM_RD_INCR is added to XM_RD_ADDR and the buffer is loaded again.

@@ -16,7 +16,7 @@ use xosera::XrPort;
 ghost use mathlib.Core.Path.{_≡_};
 ghost use mathlib.Core.Bool.{Bool, cond};
 ghost use mathlib.Core.List.{List};
-ghost use Prim.Native.Nat.{ℕ};
+ghost use Prim.Native.Nat.{ℕ, _<_};
 ghost use lib.ListN.{length};
 ghost use Rattle.xosera.specs.Adapter.{adapter};
 ghost use Rattle.xosera.specs.Events.{write, read, tick, frameEnd, line, call, step, run};
@@ -117,16 +117,18 @@ fn is_full(s: State, reg: u8, odd: bool) -> bool
 
 // Refusal 6: a word with bit 15 set written to XM_INT_CTRL.
 fn is_reconfiguring(s: State, reg: u8, odd: bool, byte: u8) -> bool
+    requires { ⌜ reg < 16 ⌝ }
     ensures { λ r. ⌜ ((v x : List ℕ) → r ≡ reconfigures (adapter s v x) reg odd byte) ⌝ }
 {
     if !odd {
         return false;
     }
+    let h = s.host;
+    let word = words::word_of(host::latch_of(h, reg), byte);
     if reg != 1 {
         return false;
     }
-    let h = s.host;
-    words::bit(15, words::word_of(host::latch_of(h, reg), byte))
+    words::bit(15, word)
 }
 
 fn read_refusal(s: State, vram: usize, xr: usize, reg: u8) -> u8
