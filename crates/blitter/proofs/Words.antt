@@ -2,13 +2,14 @@
 use mathlib.Core.Path.{_≡_, refl, sym, _∙_}
 use mathlib.Core.Bool.{Bool, true, false, cond}
 use mathlib.Core.List.{List}
-use Prim.Native.Nat.{ℕ, _+_, _%_, _≤_, _<_}
+use Prim.Native.Nat.{ℕ, _+_, _/_, _%_, _≤_, _<_}
 use native.Mathlib.Omega.{arith}
 use borrow.Author.Tests.{eqb-true, eqb-false}
+use lib.Bits.{bitAnd, and-le-r}
 use lib.Dec.{eqb}
 use Rattle.xosera.specs.declared.Engine.{Engine}
-use Rattle.xosera.specs.Words.{shifted}
-use Rattle.xosera.specs.Blitter.{isConstant, fetched, sourced, lastWord, lastStep, nextKept, next}
+use Rattle.xosera.specs.Words.{bit, shifted, isColour, colourMask}
+use Rattle.xosera.specs.Blitter.{isConstant, fetched, sourced, firstMask, lastWord, lastMask, testMask, writeMask, lastStep, nextKept, next}
 use Rattle.xosera.proofs.EngineLaws as Laws
 use Rattle.blitter.specs.Progress.{rawWord, sourcedFrom, advanced, Running}
 
@@ -24,6 +25,24 @@ sourced-is e vram = go (isConstant e)
         ≡ cond b (e .regs .srcs) (shifted (e .regs .shift % 4) (e .kept) (cond b 0 (fetched e vram)))
     go true = refl
     go false = refl
+
+-- A write mask has four bits.
+pub write-mask-whole : (e : Engine) (s : ℕ) → writeMask e s % 16 ≡ writeMask e s
+unfolding writeMask testMask colourMask
+write-mask-whole e s =
+    let t = e .regs .ctrl / 256 in
+    let b = bit 5 (e .regs .ctrl) in
+    let colours : colourMask b t s ≤ 15 = omega (arith, at-most (isColour b t s 3) 8, at-most (isColour b t s 2) 4, at-most (isColour b t s 1) 2, at-most (isColour b t s 0) 1) in
+    let small : testMask e s ≤ 15 = either (bit 4 (e .regs .ctrl)) (colourMask b t s) colours in
+    omega (arith, and-le-r (bitAnd (firstMask e) (lastMask e)) (testMask e s))
+  where
+    at-most : (c : Bool) (n : ℕ) → cond c 0 n ≤ n
+    at-most true n = omega arith
+    at-most false n = omega arith
+
+    either : (c : Bool) (m : ℕ) → m ≤ 15 → cond c m 15 ≤ 15
+    either true m h = h
+    either false m h = omega arith
 
 -- A word that is not its line's last is not the blit's last.
 pub inside-on : (e : Engine) → lastWord e ≡ false → lastStep e ≡ false

@@ -10,6 +10,7 @@ ghost use lib.ListN.{length};
 ghost use Rattle.xosera.specs.Words.{wrap};
 ghost use Rattle.xosera.specs.Memories.{isVramLength};
 ghost use Rattle.xosera.specs.Blitter.{noRegs, idle, launched, isConstant, sourced, lastWord, firstMask, lastMask, testMask, writeMask, drawn, lastStep, nextSource, nextDest};
+ghost use Rattle.words.specs.Spread.{spread};
 ghost use Rattle.blitter.specs.Progress.{rawWord, sourcedFrom, advanced, Running, Going, RanTo};
 
 // An idle engine.
@@ -92,23 +93,30 @@ fn last_mask(e: Engine) -> u16
     }
 }
 
-// The colour test, if it is asked for.
-fn test_mask(e: Engine, s: u16) -> u16
-    ensures { λ r. ⌜ r ≡ testMask e s ⌝ }
+// The colour test as a spread mask, if it is asked for.
+fn test_bits(e: Engine, s: u16) -> u16
+    ensures { λ r. ⌜ r ≡ spread (testMask e s) ⌝ }
 {
     let ctrl = e.regs.ctrl;
     if words::bit(4, ctrl) {
-        words::colour_mask(words::bit(5, ctrl), ctrl / 256, s)
+        words::colour_bits(words::bit(5, ctrl), ctrl / 256, s)
     } else {
-        15
+        0xFFFF
     }
+}
+
+// The nibbles that a step writes, as a spread mask.
+fn write_bits(e: Engine, s: u16) -> u16
+    ensures { λ r. ⌜ r ≡ spread (writeMask e s) ⌝ }
+{
+    words::spread(first_mask(e) & last_mask(e)) & test_bits(e, s)
 }
 
 // The nibbles that a step writes.
 pub fn write_mask(e: Engine, s: u16) -> u16
     ensures { λ r. ⌜ r ≡ writeMask e s ⌝ }
 {
-    first_mask(e) & last_mask(e) & test_mask(e, s)
+    words::gathered(write_bits(e, s))
 }
 
 // The word that the shifter keeps: the VRAM word at the source address, or none of a constant.
@@ -141,10 +149,10 @@ pub fn draw(e: Engine, vram: &mut [u16]) -> u16
 {
     let raw = fetch(e, vram);
     let s = source(e, raw);
-    let mask = write_mask(e, s);
+    let bits = write_bits(e, s);
     let value = words::combined(s, e.regs.andc, e.regs.xor);
     let at = VramAddr(e.regs.dstd);
-    memory::store(vram, at, mask, value);
+    memory::store_bits(vram, at, bits, value);
     raw
 }
 

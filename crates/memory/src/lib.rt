@@ -2,9 +2,10 @@
 use xosera::VramAddr;
 ghost use mathlib.Core.Path.{_≡_};
 ghost use mathlib.Core.Bool.{true};
-ghost use Prim.Native.Nat.{_%_, _<_};
+ghost use Prim.Native.Nat.{ℕ, _%_, _<_};
 ghost use lib.ListN.{length};
 ghost use Rattle.xosera.specs.Memories.{isVramLength, word, stored};
+ghost use Rattle.words.specs.Spread.{spread};
 
 pub fn is_vram_length(n: usize) -> bool
     ensures { λ r. ⌜ r ≡ isVramLength n ⌝ }
@@ -31,12 +32,20 @@ pub fn read_word(vram: &[u16], a: VramAddr) -> u16
     vram[at]
 }
 
+// A store under a spread nibble mask.
+pub fn store_bits(vram: &mut [u16], a: VramAddr, bits: u16, value: u16)
+    requires { ⌜ isVramLength (length (now vram)) ≡ true ⌝ }
+    ensures { λ _. ⌜ ((m : ℕ) → bits ≡ spread m → now (vram .exit) ≡ stored (record { mask = m; addr = a .0; value = value }) (now (vram .entry))) ⌝ }
+{
+    let at = place(a, vram.len());
+    let old = vram[at];
+    vram[at] = words::blended(bits, old, value);
+}
+
 // A store under a nibble mask.
 pub fn store(vram: &mut [u16], a: VramAddr, mask: u16, value: u16)
     requires { ⌜ isVramLength (length (now vram)) ≡ true ⌝ }
     ensures { λ _. ⌜ now (vram .exit) ≡ stored (record { mask = mask; addr = a .0; value = value }) (now (vram .entry)) ⌝ }
 {
-    let at = place(a, vram.len());
-    let old = vram[at];
-    vram[at] = words::merged(mask, old, value);
+    store_bits(vram, a, words::spread(mask), value);
 }

@@ -22,6 +22,22 @@ below (suc n) p t k h = pick (ℕ-discrete k n) (λ l. below n p (both (p n) (al
     pick (yes e) less = subst (λ (m : ℕ). T (p m)) (sym e) (both (p n) (allBelow n p) t .0)
     pick (no d) less = less (omega arith)
 
+-- What a test shows of both truth values holds of each; and so for four of them.
+abbrev pub bothWays : (Bool → Bool) → Bool
+bothWays p = p true && p false
+
+either : (p : Bool → Bool) → T (bothWays p) → (b : Bool) → T (p b)
+either p t true = both (p true) (p false) t .0
+either p t false = both (p true) (p false) t .1
+
+abbrev pub allWays : (Bool → Bool → Bool → Bool → Bool) → Bool
+allWays f = bothWays (λ p. bothWays (λ q. bothWays (λ r. bothWays (f p q r))))
+
+pub ways : (f : Bool → Bool → Bool → Bool → Bool) → T (allWays f) → (p q r s : Bool) → T (f p q r s)
+ways f t p q r =
+    either (f p q r)
+    (either (λ r. bothWays (f p q r)) (either (λ q. bothWays (λ r. bothWays (f p q r))) (either (λ p. bothWays (λ q. bothWays (λ r. bothWays (f p q r)))) t p) q) r)
+
 -- What holds at 0 to 3 holds below 4.
 pub four : (P : ℕ → Type 0) → P 0 → P 1 → P 2 → P 3 → (k : ℕ) → k < 4 → P k
 four P a b c d zero h = a

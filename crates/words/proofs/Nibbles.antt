@@ -3,7 +3,7 @@ use mathlib.Core.Path.{_≡_, refl, sym, ap, ap₂, _∙_}
 use mathlib.Core.Bool.{Bool, true, false, cond}
 use Prim.Native.Nat.{ℕ, _+_, _*_, _-_, _/_, _%_, _<_, _≤_, _^_}
 use native.Mathlib.Omega.{arith}
-use lib.Bits.{bitAnd, bitOr, and-block, or-block, and-lt, or-lt, and-zero-r, and-mask, or-zero-r, or-zero-l}
+use lib.Bits.{bitAnd, bitOr, and-block, or-block, and-lt, or-lt, and-zero-r, and-mask, and-mod, or-zero-r, or-zero-l}
 use lib.Dec.{T, eqb, eqb→eq}
 use Rattle.xosera.specs.Words.{bit, nibble, chosen, merged}
 use Rattle.words.specs.Spread.{spread}
@@ -121,3 +121,27 @@ right m = eqb (singled m * 15) (spread m)
 pub spread-by-product : (m : ℕ) → singled (m % 16) * 15 ≡ spread m
 unfolding spread bit right
 spread-by-product m = eqb→eq (singled (m % 16) * 15) (spread (m % 16)) (below 16 right tt (m % 16) (omega arith)) ∙ spread-cut m
+
+-- What a mask's spread shows of it.
+abbrev pub gather : ℕ → ℕ
+gather b = bitOr (bitOr (bitOr (bitAnd (b / 2 ^ 12) 8) (bitAnd (b / 2 ^ 8) 4)) (bitAnd (b / 2 ^ 4) 2)) (bitAnd b 1)
+
+back : ℕ → Bool
+unfolding spread bit
+back m = eqb (gather (spread m)) m
+
+pub gather-spread : (m : ℕ) → gather (spread m) ≡ m % 16
+unfolding spread bit back
+gather-spread m = ap gather (sym (spread-cut m)) ∙ eqb→eq (gather (spread (m % 16))) (m % 16) (below 16 back tt (m % 16) (omega arith))
+
+-- Masks taken together before or after they are spread.
+together : ℕ → ℕ → Bool
+unfolding spread bit
+together m n = eqb (spread (bitAnd m n)) (bitAnd (spread m) (spread n))
+
+pub spread-and : (m n : ℕ) → spread (bitAnd m n) ≡ bitAnd (spread m) (spread n)
+unfolding spread bit together
+spread-and m n =
+    sym (spread-cut (bitAnd m n)) ∙ ap spread (and-mod m n 4)
+    ∙ eqb→eq (spread (bitAnd (m % 16) (n % 16))) (bitAnd (spread (m % 16)) (spread (n % 16))) (below 16 (together (m % 16)) (below 16 (λ (x : ℕ). allBelow 16 (together x)) tt (m % 16) (omega arith)) (n % 16) (omega arith))
+    ∙ ap₂ bitAnd (spread-cut m) (spread-cut n)

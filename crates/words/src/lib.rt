@@ -1,8 +1,6 @@
 // Words of 16 bits, their bytes and nibbles.
 ghost use mathlib.Core.Path.{_≡_};
-ghost use mathlib.Core.Bool.{true, false, cond};
-ghost use Prim.Native.Nat.{_/_, _%_, _<_, _≤_};
-ghost use lib.Dec.{eqb};
+ghost use Prim.Native.Nat.{ℕ, _/_, _%_, _<_};
 ghost use Rattle.xosera.specs.Words.{bit, merged, shifted, combined, colourMask};
 ghost use Rattle.xosera.specs.HostBytes.{wordOf};
 ghost use Rattle.words.specs.Spread.{spread};
@@ -39,11 +37,17 @@ pub fn spread(mask: u16) -> u16
     ((((((mask % 16) * 65) & 0x0303) * 9) & 0x1111) * 15)
 }
 
-// A word written under a nibble mask.
-pub fn merged(mask: u16, old: u16, new: u16) -> u16
-    ensures { λ r. ⌜ r ≡ merged mask old new ⌝ }
+// The nibble mask that was spread.
+pub fn gathered(bits: u16) -> u16
+    ensures { λ r. ⌜ ((m : ℕ) → bits ≡ spread m → r ≡ m % 16) ⌝ }
 {
-    let bits = spread(mask);
+    ((bits >> 12) & 8) | ((bits >> 8) & 4) | ((bits >> 4) & 2) | (bits & 1)
+}
+
+// A word written under a spread nibble mask.
+pub fn blended(bits: u16, old: u16, new: u16) -> u16
+    ensures { λ r. ⌜ ((m : ℕ) → bits ≡ spread m → r ≡ merged m old new) ⌝ }
+{
     (old & !bits) | (new & bits)
 }
 
@@ -68,37 +72,16 @@ pub fn bit(k: u16, w: u16) -> bool
     (w >> k) % 2 == 1
 }
 
-// The bit where the two differ, else 0.
-fn passed(x: u16, y: u16, bit: u16) -> u16
-    ensures { λ r. ⌜ (r ≡ cond (eqb x y) 0 bit) × (r ≤ bit) ⌝ }
+// The nibbles that the colour test lets through, as a spread mask. All nibbles are compared at once: the top bit of a
+// nibble of `tops` is set where S and T differ, and no sum reaches the next nibble.
+pub fn colour_bits(bytes: bool, t: u16, s: u16) -> u16
+    requires { ⌜ t < 256 ⌝ }
+    ensures { λ r. ⌜ r ≡ spread (colourMask bytes t s) ⌝ }
 {
-    if x == y { 0 } else { bit }
-}
-
-fn nibble_mask(t: u16, s: u16) -> u16
-    ensures { λ r. ⌜ r ≡ colourMask false t s ⌝ }
-{
-    let upper = t / 16 % 16;
-    let lower = t % 16;
-    passed(s / 4096 % 16, upper, 8)
-        + passed(s / 256 % 16, lower, 4)
-        + passed(s / 16 % 16, upper, 2)
-        + passed(s % 16, lower, 1)
-}
-
-fn byte_mask(t: u16, s: u16) -> u16
-    ensures { λ r. ⌜ r ≡ colourMask true t s ⌝ }
-{
-    passed(s / 256 % 256, t, 12) + passed(s % 256, t, 3)
-}
-
-// The nibbles that the colour test lets through.
-pub fn colour_mask(bytes: bool, t: u16, s: u16) -> u16
-    ensures { λ r. ⌜ r ≡ colourMask bytes t s ⌝ }
-{
+    let x = s ^ (t * 0x0101);
+    let tops = (((x & 0x7777) + 0x7777) | x) & 0x8888;
     if bytes {
-        byte_mask(t, s)
-    } else {
-        nibble_mask(t, s)
+        return (((tops | (tops >> 4)) & 0x0808) >> 3) * 255;
     }
+    (tops >> 3) * 15
 }

@@ -13,14 +13,14 @@ fetch-requires c κs = search needs
 source-requires : tie.Need-source-requires
 source-requires c κs = search needs
 
-write-mask-requires : tie.Need-write-mask-requires
-write-mask-requires c κs = search needs
+write-bits-requires : tie.Need-write-bits-requires
+write-bits-requires c κs = search needs
 
 combined-requires : tie.Need-combined-requires
 combined-requires c κs = search needs
 
-store-requires : tie.Need-store-requires
-store-requires c κs = search needs
+store-bits-requires : tie.Need-store-bits-requires
+store-bits-requires c κs = search needs
 
 same-length : tie.Need-same-length
 same-length c = search needs
@@ -32,7 +32,7 @@ returns c =
     let v = c .before .before .before .before .before .before .before .before .before .before .args .vram .now in
     let raw = c .before .before .before .before .before .before .before .fetch .ensures in
     let s = c .before .before .before .before .before .before .source .ensures ∙ ap (sourcedFrom e) raw ∙ sym (sourced-is e v) in
-    (raw, rw (← s, ← c .before .before .before .before .combined .ensures, ← c .before .before .before .before .before .write-mask .ensures) (c .before .before .store .ensures))
+    (raw, rw (← s, ← c .before .before .before .before .combined .ensures) (c .before .before .store-bits .ensures _ (c .before .before .before .before .before .write-bits .ensures)))
 
 pub draw-spec : {M : Type 1} → statement M
 draw-spec =
@@ -40,8 +40,8 @@ draw-spec =
     (tie.spec
     fetch-requires
     source-requires
-    write-mask-requires
+    write-bits-requires
     combined-requires
-    store-requires
+    store-bits-requires
     same-length
     returns)

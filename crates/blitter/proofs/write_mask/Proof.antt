@@ -1,22 +1,21 @@
--- The three masks together.
+-- The mask has four bits, so it comes back whole.
+use mathlib.Core.Path.{_∙_}
 use Rattle.xosera.specs.Blitter.{writeMask}
+use Rattle.blitter.proofs.Words.{write-mask-whole}
 use borrow.Author.Needs.{needs}
 use Rattle.blitter.proofs.write_mask.Statement.{statement}
 use Rattle.blitter.proofs.write_mask.Tie as tie
 
-first-mask-requires : tie.Need-first-mask-requires
-first-mask-requires c κs = search needs
+write-bits-requires : tie.Need-write-bits-requires
+write-bits-requires c κs = search needs
 
-last-mask-requires : tie.Need-last-mask-requires
-last-mask-requires c κs = search needs
-
-test-mask-requires : tie.Need-test-mask-requires
-test-mask-requires c κs = search needs
+gathered-requires : tie.Need-gathered-requires
+gathered-requires c κs = search needs
 
 returns : tie.Need-returns
-unfolding writeMask
-returns c = rw (c .before .before .first-mask .ensures, c .before .last-mask .ensures, c .test-mask .ensures)
+returns c =
+    let a = c .before .before .args in
+    c .gathered .ensures (writeMask (a .e) (a .s)) (c .before .write-bits .ensures) ∙ write-mask-whole (a .e) (a .s)
 
 pub write-mask-spec : {M : Type 1} → statement M
-write-mask-spec =
-    tie.close (tie.spec first-mask-requires last-mask-requires test-mask-requires returns)
+write-mask-spec = tie.close (tie.spec write-bits-requires gathered-requires returns)
