@@ -9,6 +9,7 @@ use Rattle.xosera.specs.Adapter.{Adapter}
 use Rattle.xosera.specs.Events.{Event, Answer, write, read, tick, frameEnd, line, call, step, run}
 use Rattle.xosera.specs.Calls.{after, answer}
 use Rattle.xosera.specs.Sequences.{afterAll}
+use Rattle.order.specs.Order.{agreed}
 
 -- 0 and 1 write a byte, even and odd; 2 and 3 read one; 4 a timer tick; 5 a frame end; 6 the line question; 7 a blit step;
 -- from 8 on a run. An access's argument is register + 256 x byte, a run's is n.
@@ -33,6 +34,14 @@ answersOf (r ∷ refusals) (v ∷ values) = record { refusal = r; value = v } �
 unfoldable pub allAnswers : Adapter → List Event → List Answer
 allAnswers a [] = []
 allAnswers a (e ∷ es) = answer a e ∷ allAnswers (after a e) es
+
+-- Of the answers to a list of events those of the calls, but for the bits that may differ (document 01, "The order of things").
+unfoldable pub agreedAnswers : List Event → List Answer → List Answer
+agreedAnswers [] told = []
+agreedAnswers (e ∷ es) [] = []
+agreedAnswers (call c ∷ es) (x ∷ told) = record { refusal = x .refusal; value = agreed c (x .value) } ∷ agreedAnswers es told
+agreedAnswers (step ∷ es) (x ∷ told) = agreedAnswers es told
+agreedAnswers (run n ∷ es) (x ∷ told) = agreedAnswers es told
 
 -- From adapter a the calls leave adapter b and answer so.
 pub record Played (a : Adapter) (es : List Event) (answers : List Answer) (b : Adapter) : Type 0 where

@@ -5,7 +5,7 @@ use xosera::XrAddr;
 ghost use mathlib.Core.Path.{_≡_};
 ghost use mathlib.Core.Bool.{cond};
 ghost use Prim.Native.Nat.{_-_, _<_, _≤_};
-ghost use lib.ListN.{length, set};
+ghost use lib.ListN.{length, getD, set};
 ghost use Rattle.xosera.specs.XrSpace.{within, playfieldRead, registerRead, xrRead, put, videoWrite, blitWrite, xrMemoryWrite};
 
 // Whether an address is one of the n from base on.
@@ -48,6 +48,13 @@ pub fn xr_store(xr: &mut [u16], a: XrAddr, w: u16)
     }
 }
 
+fn get_word(part: &[u16], i: usize) -> u16
+    requires { ⌜ i < length (now part) ⌝ }
+    ensures { λ r. ⌜ r ≡ getD (now (part .entry)) i 0 ⌝ }
+{
+    part[i]
+}
+
 // A playfield's register; LINE_ADDR reads as 0.
 fn playfield_read(p: [u16; 7], i: u16) -> u16
     requires { ⌜ i < 7 ⌝ }
@@ -81,7 +88,7 @@ fn register_read(v: Video, at: u16) -> u16
     }
 }
 
-// A read anywhere in the XR space.
+// A read anywhere in the XR space. The colour part is lent on by itself.
 pub fn xr_read(v: Video, xr: &[u16], a: XrAddr) -> u16
     requires { ⌜ length (now xr) ≡ 6656 ⌝ }
     ensures { λ r. ⌜ r ≡ xrRead v (now (xr .entry)) (a .0) ⌝ }
@@ -91,7 +98,7 @@ pub fn xr_read(v: Video, xr: &[u16], a: XrAddr) -> u16
         return xr[(at - 0x4000) as usize];
     }
     if within(0x8000, 512, at) {
-        return xr[5120 + (at - 0x8000) as usize];
+        return get_word(&xr[5120..5632], (at - 0x8000) as usize);
     }
     if within(0xC000, 1024, at) {
         return xr[5632 + (at - 0xC000) as usize];
