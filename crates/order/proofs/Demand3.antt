@@ -21,7 +21,7 @@ use Rattle.order.proofs.Finish.{stepped-unqueued}
 use Rattle.order.proofs.OrderOfWork.{order-of-work}
 
 -- An adapter that accepts a start is fit, before it and after it.
-start-fit : (a : Adapter) (b : ℕ) → refusal a (startWith b) ≡ 0 → Fit a
+pub start-fit : (a : Adapter) (b : ℕ) → refusal a (startWith b) ≡ 0 → Fit a
 unfolding applying
 start-fit a b ok = record {
   vram = accepted-none a (startWith b) 0 ok;

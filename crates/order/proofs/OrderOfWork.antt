@@ -15,7 +15,7 @@ use Rattle.order.proofs.Finish.{finished, finishes}
 use Rattle.order.proofs.Lists.{in-any-order}
 
 -- n blit steps and then a list.
-ends-after-steps : (n : ℕ) (a : Adapter) (fs : List Event) → Fit a → afterAll a (replicate n step ++ fs) ≡ afterAll (steps n a) fs
+pub ends-after-steps : (n : ℕ) (a : Adapter) (fs : List Event) → Fit a → afterAll a (replicate n step ++ fs) ≡ afterAll (steps n a) fs
 unfolding afterAll steps
 ends-after-steps zero a fs fit = refl
 ends-after-steps (suc n) a fs fit =

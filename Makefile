@@ -1,0 +1,103 @@
+# The host side of the model: library, example, tests, benchmark.
+#
+#   make lib         prove the Rattle crates and build the library
+#   make example     draw the cross, and the cross with last spring's fault
+#   make test-c      the C tests: plain, under ASan and UBSan, under valgrind
+#   make test-rust   the library against a plain Rust model, call by call;
+#                    XOSERA_CALLS=100000000 for a long run, XOSERA_SEED=n for the same calls again
+#   make bench       words and calls a second
+#   make clean       remove what this file built
+#
+# XOSERA_LIB_DIR names a folder with another libfirmware.a to use instead.
+
+ifdef XOSERA_LIB_DIR
+override XOSERA_LIB_DIR := $(abspath $(XOSERA_LIB_DIR))
+LIB := $(XOSERA_LIB_DIR)/libfirmware.a
+else
+XOSERA_LIB_DIR := $(abspath target/staticlib)
+LIB := target/staticlib/libfirmware.a
+endif
+export XOSERA_LIB_DIR
+
+WARN     := -Wall -Wextra -Wpedantic -Werror
+CFLAGS   := -std=c11 -O1 -gdwarf-4 $(WARN) -Iinclude
+CXXFLAGS := -std=c++17 -O1 -gdwarf-4 $(WARN) -Iinclude
+VALGRIND := valgrind -q --error-exitcode=9 --leak-check=full --errors-for-leak-kinds=all
+SANITIZE := -fsanitize=address,undefined -fno-sanitize-recover=all
+
+HEADER    := include/xosera_model.h
+TESTS_C   := $(wildcard tests/c/*.c)
+TESTS_CPP := $(wildcard tests/c/*.cpp)
+TESTS_H   := $(HEADER) $(wildcard tests/c/*.h)
+OBJECTS    = $(TESTS_C:tests/c/%.c=build/$(1)/%.o) $(TESTS_CPP:tests/c/%.cpp=build/$(1)/%.o)
+
+.PHONY: all lib example test test-c test-rust bench clean
+all: lib example
+
+# rt does nothing where no crate has changed since it was last proved.
+lib:
+	rt staticlib firmware
+
+target/staticlib/libfirmware.a: $(shell find crates -name '*.rt' -o -name '*.antt') crates.txt
+	rt staticlib firmware
+	@touch $@
+
+example: build/cross
+	build/cross
+	build/cross -f 10 1 21 build/cross.pbm
+
+build/cross: examples/cross/cross.c $(HEADER) $(LIB) | build
+	@echo "  cc $<"; $(CC) $(CFLAGS) -o $@ $< $(LIB)
+
+test: test-c test-rust
+
+# Runs $(1) and prints its last line, or all that did not go well.
+run_tests = $(1) >$(2) 2>&1 || { grep -v -e ' RUN ' -e ' OK ' $(2); exit 1; }; tail -n 1 $(2)
+
+test-c: build/plain/tests build/sanitized/tests build/cross build/first_test
+	@printf 'plain: '
+	@$(call run_tests,build/plain/tests,build/plain/log)
+	@printf 'AddressSanitizer and UBSan: '
+	@$(call run_tests,build/sanitized/tests,build/sanitized/log)
+	@printf 'valgrind: '
+	@$(call run_tests,$(VALGRIND) build/plain/tests,build/plain/valgrind.log)
+	@build/cross -f | diff examples/cross/fault.txt -
+	@echo "examples/cross shows the fault as in examples/cross/fault.txt"
+	@printf 'docs/FIRMWARE.md: '
+	@build/first_test
+
+build/plain/tests: $(call OBJECTS,plain) $(LIB)
+	@echo "  link $@"; $(CXX) -o $@ $^ -lcmocka
+
+build/sanitized/tests: $(call OBJECTS,sanitized) $(LIB)
+	@echo "  link $@"; $(CXX) $(SANITIZE) -o $@ $^ -lcmocka
+
+build/plain/%.o: tests/c/%.c $(TESTS_H) | build/plain
+	@echo "  cc $<"; $(CC) $(CFLAGS) -c -o $@ $<
+build/plain/%.o: tests/c/%.cpp $(TESTS_H) | build/plain
+	@echo "  c++ $<"; $(CXX) $(CXXFLAGS) -c -o $@ $<
+build/sanitized/%.o: tests/c/%.c $(TESTS_H) | build/sanitized
+	@echo "  cc $<"; $(CC) $(CFLAGS) $(SANITIZE) -c -o $@ $<
+build/sanitized/%.o: tests/c/%.cpp $(TESTS_H) | build/sanitized
+	@echo "  c++ $<"; $(CXX) $(CXXFLAGS) $(SANITIZE) -c -o $@ $<
+
+# The first test of docs/FIRMWARE.md, as it stands there.
+build/first_test.c: docs/FIRMWARE.md | build
+	@awk '/^```/ { inside = /^```c/ && !blocks++; next } inside' $< >$@
+build/first_test: build/first_test.c $(HEADER) $(LIB)
+	@echo "  cc $<"; $(CC) $(CFLAGS) -o $@ $< $(LIB)
+
+build build/plain build/sanitized:
+	@mkdir -p $@
+
+test-rust: $(LIB) | build
+	@(cd tests/rust && cargo test --release -- --nocapture) >build/rust.log 2>&1 || \
+	    { cat build/rust.log; exit 1; }
+	@grep -e '^bench table' -e '^order' -e '^random calls' -e '^  [a-zA-Z]' build/rust.log
+	@awk '/^test result/ { n += $$4 } END { print "Rust tests: " n " passed, 0 failed" }' build/rust.log
+
+bench: $(LIB)
+	@cd tests/rust && cargo run --release --quiet --bin bench
+
+clean:
+	rm -rf build

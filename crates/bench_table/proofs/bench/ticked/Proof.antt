@@ -1,0 +1,42 @@
+-- Each turn leaves one tick less.
+use Prim.Native.Nat.{_≤_}
+use borrow.Author.Needs.{needs}
+use Rattle.bench_table.proofs.bench.ticked.Statement.{statement}
+use Rattle.bench_table.proofs.bench.ticked.Tie as tie
+
+abbrev Inv-loop : tie.InvT-loop
+Inv-loop ticks t₀ left₀ t left = left ≤ ticks
+
+abbrev μ-loop : tie.MeasureT-loop
+μ-loop ticks t₀ left₀ t left = left
+
+loop-holds : tie.Need-loop-holds Inv-loop μ-loop
+loop-holds c = search needs
+
+timer-tick-requires : tie.Need-timer-tick-requires Inv-loop μ-loop
+timer-tick-requires c κs = search needs
+
+sub-left : tie.Need-sub-left Inv-loop μ-loop
+sub-left c = search needs
+
+loop-less : tie.Need-loop-less Inv-loop μ-loop
+loop-less c = search needs
+
+loop-again : tie.Need-loop-again Inv-loop μ-loop
+loop-again c = search needs
+
+returns : tie.Need-returns Inv-loop μ-loop
+returns c = search needs
+
+pub ticked-spec : {M : Type 1} → statement M
+ticked-spec =
+    tie.close
+    (tie.spec
+    Inv-loop
+    μ-loop
+    loop-holds
+    timer-tick-requires
+    sub-left
+    loop-less
+    loop-again
+    returns)

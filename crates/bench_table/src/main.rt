@@ -1,0 +1,28 @@
+// The bench table of document 01, run row by row through the public calls: each row's case, what it should give,
+// what it gave, and whether they are the same.
+mod bench;
+mod blit_rows;
+mod host_rows;
+mod queue_rows;
+mod report;
+mod table;
+
+use crate::bench::Vram;
+use crate::bench::Xr;
+
+// The fifteen rows over the memories lent, and how many were as they should be.
+fn run(vram: &mut Vram, xr: &mut Xr) {
+    report::put(b"case | should give | gave | verdict\n");
+    let drawing = table::drawing(0, vram, xr);
+    let places = table::places(drawing, vram, xr);
+    let hosts = table::hosts(places, vram, xr);
+    let queues = table::queues(hosts, vram, xr);
+    report::put_number(queues);
+    report::put(b" of 15 rows as they should be\n");
+}
+
+fn main() {
+    let mut vram = [0u16; 256];
+    let mut xr = [0u16; 6656];
+    run(&mut vram, &mut xr);
+}

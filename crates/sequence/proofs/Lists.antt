@@ -1,0 +1,56 @@
+-- Lists of numbers read as events and answers, from a place on and up to a place.
+use mathlib.Core.Path.{_≡_, refl, sym, ap, _∙_}
+use mathlib.Core.List.{List, [], _∷_, _++_}
+use Prim.Native.Nat.{ℕ, zero, suc, _+_, _≤_, _<_}
+use native.Mathlib.Omega.{arith}
+use lib.ListN.{length, getD, take, drop, set}
+use Rattle.xosera.specs.Events.{Event, Answer, run}
+use Rattle.sequence.specs.Played.{eventOf, eventsOf, answersOf}
+
+pub events-next : (ks ns : List ℕ) (i : ℕ) → i < length ks → length ns ≡ length ks
+    → drop i (eventsOf ks ns) ≡ eventOf (getD ks i 0) (getD ns i 0) ∷ drop (suc i) (eventsOf ks ns)
+unfolding eventsOf
+events-next [] ns i h e = absurd (omega arith)
+events-next (k ∷ ks) [] i h e = absurd (omega arith)
+events-next (k ∷ ks) (n ∷ ns) zero h e = refl
+events-next (k ∷ ks) (n ∷ ns) (suc i) h e = events-next ks ns i (omega arith) (omega arith)
+
+pub events-none : (ks ns : List ℕ) (i : ℕ) → length ks ≤ i → drop i (eventsOf ks ns) ≡ []
+unfolding eventsOf
+events-none [] ns zero h = refl
+events-none [] ns (suc i) h = refl
+events-none (k ∷ ks) [] zero h = refl
+events-none (k ∷ ks) [] (suc i) h = refl
+events-none (k ∷ ks) (n ∷ ns) zero h = absurd (omega arith)
+events-none (k ∷ ks) (n ∷ ns) (suc i) h = events-none ks ns i (omega arith)
+
+pub answers-more : (rs vs : List ℕ) (i r v : ℕ) → i < length rs → i < length vs
+    → take (suc i) (answersOf (set rs i r) (set vs i v)) ≡ take i (answersOf rs vs) ++ record { refusal = r; value = v } ∷ []
+unfolding answersOf
+answers-more [] vs i r v h k = absurd (omega arith)
+answers-more (x ∷ rs) [] i r v h k = absurd (omega arith)
+answers-more (x ∷ rs) (y ∷ vs) zero r v h k = refl
+answers-more (x ∷ rs) (y ∷ vs) (suc i) r v h k =
+    ap (λ (l : List Answer). record { refusal = x; value = y } ∷ l) (answers-more rs vs i r v (omega arith) (omega arith))
+
+pub answers-all : (rs vs : List ℕ) (i : ℕ) → length rs ≤ i → take i (answersOf rs vs) ≡ answersOf rs vs
+unfolding answersOf
+answers-all [] vs zero h = refl
+answers-all [] vs (suc i) h = refl
+answers-all (x ∷ rs) [] zero h = refl
+answers-all (x ∷ rs) [] (suc i) h = refl
+answers-all (x ∷ rs) (y ∷ vs) zero h = absurd (omega arith)
+answers-all (x ∷ rs) (y ∷ vs) (suc i) h = ap (λ (l : List Answer). record { refusal = x; value = y } ∷ l) (answers-all rs vs i (omega arith))
+
+-- A kind that is none of the first eight is a run.
+pub else-run : (k n : ℕ) → (k ≡ 0 → ⊥) → (k ≡ 1 → ⊥) → (k ≡ 2 → ⊥) → (k ≡ 3 → ⊥) → (k ≡ 4 → ⊥) → (k ≡ 5 → ⊥) → (k ≡ 6 → ⊥) → (k ≡ 7 → ⊥) → run n ≡ eventOf k n
+unfolding eventOf
+else-run zero n n0 n1 n2 n3 n4 n5 n6 n7 = absurd (n0 refl)
+else-run (suc (zero)) n n0 n1 n2 n3 n4 n5 n6 n7 = absurd (n1 refl)
+else-run (suc (suc (zero))) n n0 n1 n2 n3 n4 n5 n6 n7 = absurd (n2 refl)
+else-run (suc (suc (suc (zero)))) n n0 n1 n2 n3 n4 n5 n6 n7 = absurd (n3 refl)
+else-run (suc (suc (suc (suc (zero))))) n n0 n1 n2 n3 n4 n5 n6 n7 = absurd (n4 refl)
+else-run (suc (suc (suc (suc (suc (zero)))))) n n0 n1 n2 n3 n4 n5 n6 n7 = absurd (n5 refl)
+else-run (suc (suc (suc (suc (suc (suc (zero))))))) n n0 n1 n2 n3 n4 n5 n6 n7 = absurd (n6 refl)
+else-run (suc (suc (suc (suc (suc (suc (suc (zero)))))))) n n0 n1 n2 n3 n4 n5 n6 n7 = absurd (n7 refl)
+else-run (suc (suc (suc (suc (suc (suc (suc (suc (k))))))))) n n0 n1 n2 n3 n4 n5 n6 n7 = refl

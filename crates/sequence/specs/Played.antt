@@ -1,0 +1,40 @@
+-- A list of events as two lists of numbers, a kind and an argument for each; and the calls made one after another, each given
+-- what the one before it left.
+use mathlib.Core.Path.{_≡_}
+use mathlib.Core.Bool.{true, false}
+use mathlib.Core.List.{List, [], _∷_}
+use Prim.Native.Nat.{ℕ, _/_, _%_}
+use lib.ListN.{getD}
+use Rattle.xosera.specs.Adapter.{Adapter}
+use Rattle.xosera.specs.Events.{Event, Answer, write, read, tick, frameEnd, line, call, step, run}
+use Rattle.xosera.specs.Calls.{after, answer}
+use Rattle.xosera.specs.Sequences.{afterAll}
+
+-- 0 and 1 write a byte, even and odd; 2 and 3 read one; 4 a timer tick; 5 a frame end; 6 the line question; 7 a blit step;
+-- from 8 on a run. An access's argument is register + 256 x byte, a run's is n.
+unfoldable pub eventOf : ℕ → ℕ → Event
+eventOf kind n =
+    getD (call (write (n % 256) false (n / 256 % 256)) ∷ call (write (n % 256) true (n / 256 % 256))
+    ∷ call (read (n % 256) false) ∷ call (read (n % 256) true)
+    ∷ call tick ∷ call frameEnd ∷ call line ∷ step ∷ []) kind (run n)
+
+unfoldable pub eventsOf : List ℕ → List ℕ → List Event
+eventsOf [] args = []
+eventsOf (k ∷ kinds) [] = []
+eventsOf (k ∷ kinds) (n ∷ args) = eventOf k n ∷ eventsOf kinds args
+
+-- The answers as two lists of numbers.
+unfoldable pub answersOf : List ℕ → List ℕ → List Answer
+answersOf [] values = []
+answersOf (r ∷ refusals) [] = []
+answersOf (r ∷ refusals) (v ∷ values) = record { refusal = r; value = v } ∷ answersOf refusals values
+
+-- The answers of all events of a list, steps and runs included.
+unfoldable pub allAnswers : Adapter → List Event → List Answer
+allAnswers a [] = []
+allAnswers a (e ∷ es) = answer a e ∷ allAnswers (after a e) es
+
+-- From adapter a the calls leave adapter b and answer so.
+pub record Played (a : Adapter) (es : List Event) (answers : List Answer) (b : Adapter) : Type 0 where
+  pub leaves : b ≡ afterAll a es
+  pub answered : answers ≡ allAnswers a es

@@ -1,0 +1,37 @@
+// The header as C++17, on the adapter that the C side put in use. The number of the first check
+// that does not hold, or 0.
+#include "xosera_model.h"
+
+#include "board_code.h"
+
+static_assert(__cplusplus >= 201703L, "built as C++17");
+
+int cpp_user()
+{
+    if (xosera_in_use == nullptr) {
+        return 1;
+    }
+    xm_setw(WR_INCR, 1);
+    vram_setw(0x20, 0xC0DE);
+    vram_setw_next(0xBEEF);
+    if (vram_getw(0x20) != 0xC0DE || vram_getw(0x21) != 0xBEEF) {
+        return 2;
+    }
+    xreg_setw(PA_DISP_ADDR, 0x1234);
+    if (xreg_getw(PA_DISP_ADDR) != 0x1234 || xosera_in_use->state.video.pa[2] != 0x1234) {
+        return 3;
+    }
+
+    // An adapter of C++'s own, beside the one in use.
+    static uint16_t vram[256], xr[XOSERA_XR_WORDS];
+    xosera own;
+    xosera_attach(&own, vram, 256, xr, XOSERA_XR_WORDS);
+    xosera *const before = xosera_use(&own);
+    board_clear(0x10, 4, 0x7777); // C code sees the same adapter
+    xwait_blit_done();
+    xosera_use(before);
+    if (vram[0x10] != 0x7777 || vram[0x13] != 0x7777 || vram[0x14] != 0 || own.refusals != 0) {
+        return 4;
+    }
+    return before->vram[0x20] == 0xC0DE ? 0 : 5;
+}

@@ -1,0 +1,17 @@
+/* Runs every group and says in one line how it went. */
+#include "tests.h"
+
+int main(void)
+{
+    int tests = 0, failed = 0;
+    failed += table_group(&tests);
+    failed += rules_group(&tests);
+    failed += edges_group(&tests);
+    failed += refusals_group(&tests);
+    failed += queue_group(&tests);
+    failed += order_group(&tests);
+    failed += layout_group(&tests);
+    failed += api_group(&tests);
+    printf("C tests: %d passed, %d failed\n", tests - failed, failed);
+    return failed == 0 ? 0 : 1;
+}

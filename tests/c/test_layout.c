@@ -1,0 +1,457 @@
+/* The header against the library. Nothing else checks that both mean the same bytes by a field. */
+#include "tests.h"
+
+typedef struct field {
+    const char *name;
+    size_t at, size;
+} field;
+
+/* clang-format off */
+#define FIELD(path) {#path, offsetof(xosera_state, path), sizeof(((xosera_state *)0)->path)}
+
+static const field fields[] = {
+    FIELD(host.timer.count),     FIELD(host.timer.countdown),   FIELD(host.timer.interval),
+    FIELD(host.timer.saved),     FIELD(host.xr.rd_xaddr),       FIELD(host.xr.wr_xaddr),
+    FIELD(host.xr.rd_xdata),     FIELD(host.vram.rd_incr),      FIELD(host.vram.rd_addr),
+    FIELD(host.vram.wr_incr),    FIELD(host.vram.wr_addr),      FIELD(host.vram.rd_data),
+    FIELD(host.vram.wr_mask),    FIELD(host.int_mask),          FIELD(host.latch),
+    FIELD(video.vid_ctrl),       FIELD(video.copp_ctrl),        FIELD(video.aud_ctrl),
+    FIELD(video.vid_left),       FIELD(video.vid_right),        FIELD(video.pa),
+    FIELD(video.pb),             FIELD(blit.ctrl),              FIELD(blit.andc),
+    FIELD(blit.xor_),            FIELD(blit.mod_s),             FIELD(blit.src_s),
+    FIELD(blit.mod_d),           FIELD(blit.dst_d),             FIELD(blit.shift),
+    FIELD(blit.lines),           FIELD(blit.words),             FIELD(engine.running),
+    FIELD(engine.line),          FIELD(engine.word),            FIELD(engine.kept),
+    FIELD(engine.regs.ctrl),     FIELD(engine.regs.andc),       FIELD(engine.regs.xor_),
+    FIELD(engine.regs.mod_s),    FIELD(engine.regs.src_s),      FIELD(engine.regs.mod_d),
+    FIELD(engine.regs.dst_d),    FIELD(engine.regs.shift),      FIELD(engine.regs.lines),
+    FIELD(engine.regs.words),    FIELD(queued),                 FIELD(status),
+};
+/* clang-format on */
+enum { FIELDS = sizeof fields / sizeof fields[0], PADDING = 4 };
+
+void assert_state_equal(const xosera_state *got, const xosera_state *want)
+{
+    for (size_t i = 0; i < FIELDS; i++) {
+        const uint8_t *g = (const uint8_t *)got + fields[i].at;
+        const uint8_t *w = (const uint8_t *)want + fields[i].at;
+        for (size_t b = 0; b < fields[i].size; b++) {
+            if (g[b] != w[b]) {
+                fail_msg("%s, byte %zu: %02X, should be %02X", fields[i].name, b, (unsigned)g[b],
+                         (unsigned)w[b]);
+            }
+        }
+    }
+}
+
+/* Every byte of every field different from all others, the two bools apart. */
+static xosera_state every_byte_different(void)
+{
+    xosera_state s;
+    uint8_t next = 2;
+    memset(&s, 0, sizeof s);
+    for (size_t i = 0; i < FIELDS; i++) {
+        for (size_t b = 0; b < fields[i].size; b++) {
+            ((uint8_t *)&s)[fields[i].at + b] = next++;
+        }
+    }
+    const bool yes = true;
+    memcpy(&s.engine.running, &yes, 1);
+    memcpy(&s.queued, &yes, 1);
+    return s;
+}
+
+static void the_table_names_every_byte_once(void **state)
+{
+    (void)state;
+    uint8_t seen[sizeof(xosera_state)] = {0};
+    size_t bytes = 0;
+    for (size_t i = 0; i < FIELDS; i++) {
+        for (size_t b = 0; b < fields[i].size; b++) {
+            assert_int_equal(seen[fields[i].at + b]++, 0);
+            bytes++;
+        }
+    }
+    assert_int_equal(bytes + PADDING, sizeof(xosera_state));
+}
+
+/* A refused call hands the state back as it was: every byte passes in and out. */
+static void every_byte_passes_through_every_call(void **state)
+{
+    (void)state;
+    const xosera_state s = every_byte_different();
+    uint16_t none = 0;
+    const xosera_write_answer w = xosera_write_byte(s, &none, 1, &none, 1, 3, true, 9);
+    assert_int_equal(w.refusal, XOSERA_VRAM_LENGTH);
+    assert_state_equal(&w.state, &s);
+    const xosera_read_answer r = xosera_read_byte(s, &none, 1, &none, 1, 3, true);
+    assert_int_equal(r.refusal, XOSERA_VRAM_LENGTH);
+    assert_int_equal(r.byte, 0);
+    assert_state_equal(&r.state, &s);
+    const xosera_blit_answer b = xosera_blit_step(s, &none, 1, &none, 1);
+    assert_int_equal(b.refusal, XOSERA_VRAM_LENGTH);
+    assert_int_equal(b.count, 0);
+    assert_state_equal(&b.state, &s);
+    const xosera_blit_answer n = xosera_blit_run(s, &none, 1, &none, 1, 0x0123456789ABCDEF);
+    assert_int_equal(n.refusal, XOSERA_VRAM_LENGTH);
+    assert_int_equal(n.count, 0);
+    assert_state_equal(&n.state, &s);
+    const xosera_state_answer t = xosera_timer_tick(s);
+    assert_int_equal(t.refusal, XOSERA_STATE_RANGE);
+    assert_state_equal(&t.state, &s);
+    const xosera_state_answer f = xosera_frame_end(s);
+    assert_int_equal(f.refusal, XOSERA_STATE_RANGE);
+    assert_state_equal(&f.state, &s);
+    const xosera_line_answer l = xosera_interrupt_line(s);
+    assert_int_equal(l.refusal, XOSERA_STATE_RANGE);
+    assert_false(l.up);
+    assert_state_equal(&l.state, &s);
+}
+
+/* The same state brought into its ranges, the blitter running in mid-line; still all different. */
+static xosera_state in_range(void)
+{
+    xosera_state s = every_byte_different();
+    s.host.timer.countdown = 0x0203;
+    s.host.vram.wr_mask = 9;
+    s.queued = false;
+    s.status = 0x05;
+    s.host.int_mask = 0x2A;
+    s.engine.line = 0x0111;
+    s.engine.word = 0x0222;
+    s.engine.regs.ctrl = 0x3D20; /* VRAM source, no colour test */
+    return s;
+}
+
+/* Each field by a call that reads or changes it alone: `want` is `s` with the field changed by its
+ * name in the header, and must be what the library returns, in every other field too. */
+
+static void expect_write(xosera *x, const xosera_state *s, uint8_t reg, uint8_t byte,
+                         const xosera_state *want)
+{
+    x->state = *s;
+    xosera_set_byte(x, reg, true, byte);
+    assert_state_equal(&x->state, want);
+}
+
+/* The word that an odd write forms. */
+static uint16_t formed(const xosera_state *s, uint8_t reg, uint8_t byte)
+{
+    return (uint16_t)(s->host.latch[reg] << 8 | byte);
+}
+
+static void latches_are_in_their_place(void **state)
+{
+    xosera *x = (xosera *)*state;
+    for (uint8_t reg = 0; reg < 16; reg++) {
+        xosera_state want = in_range();
+        x->state = want;
+        xosera_set_byte(x, reg, false, 0xEE);
+        want.host.latch[reg] = 0xEE;
+        assert_state_equal(&x->state, &want);
+    }
+}
+
+static void main_registers_are_in_their_place(void **state)
+{
+    xosera *x = (xosera *)*state;
+    xosera_state s = in_range(), want;
+
+    want = s;
+    want.host.vram.wr_mask = 0x6;
+    expect_write(x, &s, XM_SYS_CTRL, 0xF6, &want);
+
+    s.host.latch[XM_INT_CTRL] = 0x61;
+    want = s;
+    want.host.int_mask = 0x61;
+    want.status = 0x04;
+    expect_write(x, &s, XM_INT_CTRL, 0x01, &want);
+
+    want = s;
+    want.host.timer.countdown = formed(&s, XM_TIMER, 0xE2);
+    want.host.timer.interval = formed(&s, XM_TIMER, 0xE2);
+    expect_write(x, &s, XM_TIMER, 0xE2, &want);
+
+    s.host.latch[XM_RD_XADDR] = XR_TILE_ADDR >> 8;
+    want = s;
+    want.host.xr.rd_xaddr.word = XR_TILE_ADDR + 0xE3;
+    want.host.xr.rd_xdata = x->xr[0xE3];
+    expect_write(x, &s, XM_RD_XADDR, 0xE3, &want);
+
+    want = s;
+    want.host.xr.wr_xaddr.word = formed(&s, XM_WR_XADDR, 0xE4);
+    expect_write(x, &s, XM_WR_XADDR, 0xE4, &want);
+
+    want = s;
+    want.host.vram.rd_incr = formed(&s, XM_RD_INCR, 0xE6);
+    expect_write(x, &s, XM_RD_INCR, 0xE6, &want);
+
+    s.host.latch[XM_RD_ADDR] = 0x01;
+    want = s;
+    want.host.vram.rd_addr.word = 0x01E7;
+    want.host.vram.rd_data = x->vram[0x1E7];
+    expect_write(x, &s, XM_RD_ADDR, 0xE7, &want);
+
+    want = s;
+    want.host.vram.wr_incr = formed(&s, XM_WR_INCR, 0xE8);
+    expect_write(x, &s, XM_WR_INCR, 0xE8, &want);
+
+    want = s;
+    want.host.vram.wr_addr.word = formed(&s, XM_WR_ADDR, 0xE9);
+    expect_write(x, &s, XM_WR_ADDR, 0xE9, &want);
+
+    want = s;
+    want.host.vram.wr_addr.word = (uint16_t)(s.host.vram.wr_addr.word + s.host.vram.wr_incr);
+    expect_write(x, &s, XM_DATA, 0xEA, &want);
+}
+
+static void main_registers_are_read_from_their_place(void **state)
+{
+    xosera *x = (xosera *)*state;
+    const xosera_state s = in_range();
+    const uint16_t words[12] = {(uint16_t)(0x2000 | s.host.vram.wr_mask),
+                                (uint16_t)(s.host.int_mask << 8 | s.status),
+                                s.host.timer.count,
+                                s.host.xr.rd_xaddr.word,
+                                s.host.xr.wr_xaddr.word,
+                                s.host.xr.rd_xdata,
+                                s.host.vram.rd_incr,
+                                s.host.vram.rd_addr.word,
+                                s.host.vram.wr_incr,
+                                s.host.vram.wr_addr.word,
+                                s.host.vram.rd_data,
+                                s.host.vram.rd_data};
+    for (uint8_t reg = 0; reg < 12; reg++) {
+        x->state = s;
+        assert_int_equal(xosera_getw(x, reg), words[reg]);
+    }
+
+    xosera_state want = s;
+    x->state = s;
+    assert_int_equal(xosera_get_byte(x, XM_TIMER, true), s.host.timer.saved);
+    assert_state_equal(&x->state, &want);
+    (void)xosera_get_byte(x, XM_TIMER, false);
+    want.host.timer.saved = (uint8_t)s.host.timer.count;
+    assert_state_equal(&x->state, &want);
+
+    want = x->state = s;
+    want.host.xr.rd_xaddr.word++;
+    want.host.xr.rd_xdata = 0;
+    (void)xosera_get_byte(x, XM_XDATA, true);
+    assert_state_equal(&x->state, &want);
+
+    want = x->state = s;
+    want.host.vram.rd_addr.word = (uint16_t)(s.host.vram.rd_addr.word + s.host.vram.rd_incr);
+    want.host.vram.rd_data = x->vram[want.host.vram.rd_addr.word % x->vram_len];
+    (void)xosera_get_byte(x, XM_DATA, true);
+    assert_state_equal(&x->state, &want);
+}
+
+static void timer_and_status_are_in_their_place(void **state)
+{
+    (void)state;
+    xosera_state s = in_range(), want = s;
+    want.host.timer.count++;
+    want.host.timer.countdown--;
+    xosera_state_answer a = xosera_timer_tick(s);
+    assert_int_equal(a.refusal, XOSERA_DONE);
+    assert_state_equal(&a.state, &want);
+
+    s.host.timer.countdown = 1;
+    want = s;
+    want.host.timer.count++;
+    want.host.timer.countdown = s.host.timer.interval;
+    want.status |= INT_CTRL_TIMER_INTR_F;
+    a = xosera_timer_tick(s);
+    assert_state_equal(&a.state, &want);
+
+    want = s;
+    want.status |= INT_CTRL_VIDEO_INTR_F;
+    a = xosera_frame_end(s);
+    assert_int_equal(a.refusal, XOSERA_DONE);
+    assert_state_equal(&a.state, &want);
+
+    s.host.int_mask = 0x04;
+    const xosera_line_answer l = xosera_interrupt_line(s);
+    assert_int_equal(l.refusal, XOSERA_DONE);
+    assert_true(l.up);
+    assert_state_equal(&l.state, &s);
+    s.host.int_mask = 0x7A;
+    assert_false(xosera_interrupt_line(s).up);
+}
+
+/* The field that an XR register is stored in; NULL where none is. */
+static uint16_t *xr_field(xosera_state *s, uint16_t xaddr)
+{
+    switch (xaddr) {
+    case XR_VID_CTRL: return &s->video.vid_ctrl;
+    case XR_COPP_CTRL: return &s->video.copp_ctrl;
+    case XR_AUD_CTRL: return &s->video.aud_ctrl;
+    case XR_VID_LEFT: return &s->video.vid_left;
+    case XR_VID_RIGHT: return &s->video.vid_right;
+    case XR_PA_GFX_CTRL: return &s->video.pa[0];
+    case XR_PA_TILE_CTRL: return &s->video.pa[1];
+    case XR_PA_DISP_ADDR: return &s->video.pa[2];
+    case XR_PA_LINE_LEN: return &s->video.pa[3];
+    case XR_PA_HV_SCROLL: return &s->video.pa[4];
+    case XR_PA_LINE_ADDR: return &s->video.pa[5];
+    case XR_PA_HV_FSCALE: return &s->video.pa[6];
+    case XR_PB_GFX_CTRL: return &s->video.pb[0];
+    case XR_PB_TILE_CTRL: return &s->video.pb[1];
+    case XR_PB_DISP_ADDR: return &s->video.pb[2];
+    case XR_PB_LINE_LEN: return &s->video.pb[3];
+    case XR_PB_HV_SCROLL: return &s->video.pb[4];
+    case XR_PB_LINE_ADDR: return &s->video.pb[5];
+    case XR_PB_HV_FSCALE: return &s->video.pb[6];
+    case XR_BLIT_CTRL: return &s->blit.ctrl;
+    case XR_BLIT_ANDC: return &s->blit.andc;
+    case XR_BLIT_XOR: return &s->blit.xor_;
+    case XR_BLIT_MOD_S: return &s->blit.mod_s;
+    case XR_BLIT_SRC_S: return &s->blit.src_s;
+    case XR_BLIT_MOD_D: return &s->blit.mod_d;
+    case XR_BLIT_DST_D: return &s->blit.dst_d;
+    case XR_BLIT_SHIFT: return &s->blit.shift;
+    case XR_BLIT_LINES: return &s->blit.lines;
+    case XR_BLIT_WORDS: return &s->blit.words;
+    default: return NULL;
+    }
+}
+
+static bool reads_back(uint16_t xaddr)
+{
+    return xaddr < XR_BLIT_CTRL && xaddr != XR_PA_LINE_ADDR && xaddr != XR_PB_LINE_ADDR;
+}
+
+static void xr_registers_are_in_their_place(void **state)
+{
+    xosera *x = (xosera *)*state;
+    for (uint16_t xaddr = 0; xaddr < 0x60; xaddr++) {
+        xosera_state s = in_range(), want;
+        s.host.xr.wr_xaddr.word = xaddr;
+        s.host.latch[XM_XDATA] = 0xD1;
+        want = s;
+        want.host.xr.wr_xaddr.word++;
+        if (xr_field(&want, xaddr) != NULL) {
+            *xr_field(&want, xaddr) = 0xD1EE;
+        }
+        if (xaddr == XR_SCANLINE) {
+            want.status |= INT_CTRL_VIDEO_INTR_F;
+        }
+        if (xaddr == XR_BLIT_WORDS) {
+            want.queued = true;
+        }
+        expect_write(x, &s, XM_XDATA, 0xEE, &want);
+
+        want = s;
+        want.host.latch[XM_RD_XADDR] = s.host.latch[XM_RD_XADDR] = 0;
+        want.host.xr.rd_xaddr.word = xaddr;
+        want.host.xr.rd_xdata =
+            xr_field(&s, xaddr) != NULL && reads_back(xaddr) ? *xr_field(&s, xaddr) : 0;
+        expect_write(x, &s, XM_RD_XADDR, (uint8_t)xaddr, &want);
+    }
+}
+
+static void the_engine_is_in_its_place(void **state)
+{
+    xosera *x = (xosera *)*state;
+    xosera_state s = in_range(), want;
+
+    /* The start copies all ten registers. */
+    memset(&s.engine, 0, sizeof s.engine);
+    s.host.xr.wr_xaddr.word = XR_BLIT_WORDS;
+    s.host.latch[XM_XDATA] = 0x03;
+    s.blit.lines |= 0x8000;
+    want = s;
+    want.host.xr.wr_xaddr.word++;
+    want.blit.words = 0x03EE;
+    want.engine.running = true;
+    want.engine.regs = want.blit;
+    want.engine.regs.lines &= 0x7FFF;
+    expect_write(x, &s, XM_XDATA, 0xEE, &want);
+
+    /* A step in mid-line moves word, source and destination on, and keeps the source word. */
+    s = in_range();
+    want = s;
+    want.engine.word++;
+    want.engine.kept = x->vram[s.engine.regs.src_s % x->vram_len];
+    want.engine.regs.src_s++;
+    want.engine.regs.dst_d++;
+    x->state = s;
+    assert_int_equal(xosera_step(x), 1);
+    assert_state_equal(&x->state, &want);
+
+    /* A step at a line's end moves the line on and adds both modulos. */
+    s.engine.word = s.engine.regs.words;
+    want = s;
+    want.engine.word = 0;
+    want.engine.kept = 0;
+    want.engine.line++;
+    want.engine.regs.src_s = (uint16_t)(s.engine.regs.src_s + 1 + s.engine.regs.mod_s);
+    want.engine.regs.dst_d = (uint16_t)(s.engine.regs.dst_d + 1 + s.engine.regs.mod_d);
+    x->state = s;
+    assert_int_equal(xosera_step(x), 1);
+    assert_state_equal(&x->state, &want);
+
+    /* The last step of all ends the blit, or starts the queued one. */
+    s.engine.line = s.engine.regs.lines;
+    want = s;
+    memset(&want.engine, 0, sizeof want.engine);
+    want.status |= INT_CTRL_BLIT_INTR_F;
+    x->state = s;
+    assert_int_equal(xosera_step(x), 1);
+    assert_state_equal(&x->state, &want);
+
+    s.queued = true;
+    want.engine.running = true;
+    want.engine.regs = s.blit;
+    want.engine.regs.lines &= 0x7FFF;
+    x->state = s;
+    assert_int_equal(xosera_step(x), 1);
+    assert_state_equal(&x->state, &want);
+}
+
+static void the_engine_draws_by_its_fields(void **state)
+{
+    xosera *x = (xosera *)*state;
+    xosera_state s = in_range();
+    s.engine.word = 0;
+    s.engine.kept = 0;
+    s.engine.regs.ctrl = 0x0001;
+    s.engine.regs.src_s = 0x0F3C;
+    s.engine.regs.andc = 0x00FF;
+    s.engine.regs.xor_ = 0x1111;
+    s.engine.regs.dst_d = 0x0123;
+    s.engine.regs.shift = 0x7000;
+    x->vram[0x123] = 0xFFFF;
+    x->state = s;
+    assert_int_equal(xosera_step(x), 1);
+    assert_int_equal(x->vram[0x123], 0xFE11);
+}
+
+static void reset_is_as_the_header_says(void **state)
+{
+    (void)state;
+    xosera_state want;
+    memset(&want, 0, sizeof want);
+    want.host.vram.wr_mask = 15;
+    want.video.vid_right = 640;
+    const xosera_state got = xosera_reset();
+    assert_state_equal(&got, &want);
+}
+
+int layout_group(int *tests)
+{
+    const struct CMUnitTest list[] = {
+        cmocka_unit_test(the_table_names_every_byte_once),
+        cmocka_unit_test(every_byte_passes_through_every_call),
+        cmocka_unit_test(reset_is_as_the_header_says),
+        WITH_ADAPTER(latches_are_in_their_place),
+        WITH_ADAPTER(main_registers_are_in_their_place),
+        WITH_ADAPTER(main_registers_are_read_from_their_place),
+        cmocka_unit_test(timer_and_status_are_in_their_place),
+        WITH_ADAPTER(xr_registers_are_in_their_place),
+        WITH_ADAPTER(the_engine_is_in_its_place),
+        WITH_ADAPTER(the_engine_draws_by_its_fields),
+    };
+    return RUN_GROUP("layout", list, tests);
+}

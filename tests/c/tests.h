@@ -1,0 +1,52 @@
+/* What the C tests share: an adapter with memories of its own, and where to find the groups. */
+#ifndef TESTS_H
+#define TESTS_H
+
+#include <setjmp.h>
+#include <stdarg.h>
+#include <stddef.h>
+#include <stdint.h>
+#include <string.h>
+
+#include <cmocka.h>
+
+#include "xosera_model.h"
+
+/* An adapter over memories from the heap, as long as they are said to be and no longer, so that
+ * AddressSanitizer and valgrind see a word touched beside them. */
+xosera *adapter_new(size_t vram_len);
+void adapter_free(xosera *x);
+
+/* cmocka's set-up and tear-down: an adapter of 1,024 words, in use, any refusal of which fails the
+ * test. The test gets it as *state. */
+int adapter_setup(void **state);
+int adapter_teardown(void **state);
+
+/* Memories full of words that are all different, or nearly so. */
+void fill(uint16_t *words, size_t n, uint16_t seed);
+
+/* Fails unless the two are equal field by field; names the field. Padding is not looked at. */
+void assert_state_equal(const xosera_state *got, const xosera_state *want);
+
+/* The ten blitter registers in one go; the last one starts or queues the blit. */
+typedef struct blit {
+    uint16_t ctrl, andc, xor_, mod_s, src_s, mod_d, dst_d, shift, lines, words;
+} blit;
+void start_blit(xosera *x, const blit *b);
+
+/* One test file is one group. Each returns the number of tests that failed. */
+int table_group(int *tests);
+int rules_group(int *tests);
+int edges_group(int *tests);
+int refusals_group(int *tests);
+int queue_group(int *tests);
+int order_group(int *tests);
+int layout_group(int *tests);
+int api_group(int *tests);
+
+#define RUN_GROUP(name, list, count)                                                               \
+    (*(count) += (int)(sizeof(list) / sizeof((list)[0])),                                          \
+     cmocka_run_group_tests_name(name, list, NULL, NULL))
+#define WITH_ADAPTER(test) cmocka_unit_test_setup_teardown(test, adapter_setup, adapter_teardown)
+
+#endif

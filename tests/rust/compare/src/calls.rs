@@ -1,0 +1,550 @@
+//! Random calls, chosen so that blits start, overlap, wrap, queue and get refused all the time.
+
+use std::collections::VecDeque;
+
+use crate::convert::to_model;
+use crate::pair::{Call, Lent};
+use crate::random::Random;
+
+/// The nine VRAM lengths.
+pub const VRAM_LENGTHS: [usize; 9] = [256, 512, 1024, 2048, 4096, 8192, 16384, 32768, 65536];
+
+/// XR addresses at which something begins or ends, and their neighbours.
+pub const XR_EDGES: [u16; 40] = [
+    0x00, 0x01, 0x02, 0x03, 0x04, 0x05, 0x06, 0x0F, 0x10, 0x14, 0x15, 0x16, 0x17, 0x18, 0x1C, 0x1D,
+    0x1E, 0x1F, 0x20, 0x29, 0x3F, 0x40, 0x49, 0x4A, 0x4B, 0x4C, 0x3FFF, 0x4000, 0x53FF, 0x5400,
+    0x7FFF, 0x8000, 0x81FF, 0x8200, 0xBFFF, 0xC000, 0xC3FF, 0xC400, 0xC7FF, 0xFFFF,
+];
+
+/// The most lines less one, as copied.
+const MOST_LINES: u16 = 32767;
+
+/// Words that a run may have to do at most.
+const LONGEST_RUN: u64 = 20_000;
+
+/// The source of calls: what is planned, with loose calls in between.
+pub struct Calls {
+    random: Random,
+    planned: VecDeque<Call>,
+}
+
+impl Calls {
+    pub fn new(random: Random) -> Calls {
+        Calls {
+            random,
+            planned: VecDeque::new(),
+        }
+    }
+
+    pub fn random(&mut self) -> &mut Random {
+        &mut self.random
+    }
+
+    /// The next call on an adapter in state `s`.
+    pub fn next(&mut self, s: &xosera::State) -> Call {
+        if self.random.one_in(6) {
+            return self.loose(s);
+        }
+        if self.planned.is_empty() {
+            self.plan(s);
+        }
+        match self.planned.pop_front() {
+            // How far a run goes is settled now, by what is left.
+            Some(Call::Run { .. }) => Call::Run { n: self.steps(s) },
+            Some(call) => call,
+            None => self.loose(s),
+        }
+    }
+
+    /// The memories lent: mostly whole, now and then another length, right or wrong.
+    pub fn lend(&mut self, vram: usize, room: Lent) -> Lent {
+        let mut lent = Lent {
+            vram,
+            xr: model::XR_WORDS,
+        };
+        if self.random.one_in(60) {
+            let near = [0, 1, 255, vram / 2, vram - 1, vram + 1, vram * 2];
+            lent.vram = self.random.pick(&near).min(room.vram);
+        }
+        if self.random.one_in(90) {
+            let near = [0, 512, 5120, 6144, 6655, 6657, 8192];
+            lent.xr = self.random.pick(&near).min(room.xr);
+        }
+        lent
+    }
+
+    /// Any call that fits between two others.
+    fn loose(&mut self, s: &xosera::State) -> Call {
+        match self.random.below(16) {
+            0..=2 => Call::Step,
+            3 => Call::Run { n: self.steps(s) },
+            4 => Call::Tick,
+            5 => Call::FrameEnd,
+            6 | 7 => Call::Line,
+            8..=11 => Call::Read {
+                reg: self.register(),
+                odd: self.random.flip(),
+            },
+            12 if self.random.one_in(40) => Call::Reset,
+            _ => Call::Write {
+                reg: self.register(),
+                odd: self.random.one_in(3),
+                byte: self.random.byte(),
+            },
+        }
+    }
+
+    /// A register number, now and then one over 15.
+    fn register(&mut self) -> u8 {
+        match self.random.below(40) {
+            0 => self.random.pick(&[16, 17, 31, 128, 255]),
+            1 => self.random.byte(),
+            _ => self.random.below(16) as u8,
+        }
+    }
+
+    /// A number of steps: few, all that are left, one more or less, or without end.
+    fn steps(&mut self, s: &xosera::State) -> u64 {
+        let s = to_model(s);
+        let few = self.random.below(40);
+        if !s.in_range() {
+            return few;
+        }
+        let left = model::words_left(&s);
+        if left > LONGEST_RUN {
+            return few;
+        }
+        match self.random.below(10) {
+            0..=2 => left,
+            3 => left + 1,
+            4 => left.saturating_sub(1),
+            5 => u64::MAX,
+            6 => 0,
+            _ => few,
+        }
+    }
+
+    /// A word that is often at an edge.
+    fn word(&mut self) -> u16 {
+        match self.random.below(8) {
+            0 => 0,
+            1 => 1,
+            2 => 0xFFFF,
+            3 => self.random.pick(&[0xFFFE, 0x7FFF, 0x8000, 0x00FF, 0xFF00]),
+            4 => self.random.below(64) as u16,
+            _ => self.random.word(),
+        }
+    }
+
+    fn put(&mut self, reg: u8, word: u16) {
+        self.planned.push_back(Call::Write {
+            reg,
+            odd: false,
+            byte: (word >> 8) as u8,
+        });
+        self.planned.push_back(Call::Write {
+            reg,
+            odd: true,
+            byte: word as u8,
+        });
+    }
+
+    fn get(&mut self, reg: u8) {
+        self.planned.push_back(Call::Read { reg, odd: false });
+        self.planned.push_back(Call::Read { reg, odd: true });
+    }
+
+    fn plan(&mut self, s: &xosera::State) {
+        let busy = if s.queued { 6 } else { 2 };
+        if s.engine.running && !self.random.one_in(busy) {
+            return self.plan_steps();
+        }
+        match self.random.below(15) {
+            0 => {
+                let (reg, word) = (self.register(), self.word());
+                self.put(reg, word);
+            }
+            1 => {
+                let reg = self.register();
+                self.get(reg);
+            }
+            2 => self.plan_vram_writes(),
+            3 => self.plan_vram_reads(),
+            4 => self.plan_xr_writes(),
+            5 => self.plan_xr_reads(),
+            6 => self.plan_countdown(),
+            7 => self.plan_interrupts(),
+            8 => self.plan_nibble_mask(),
+            9..=12 => self.plan_blit(),
+            13 => {
+                self.plan_blit();
+                self.plan_blit();
+                self.plan_touch_full();
+            }
+            _ => self.plan_steps(),
+        }
+    }
+
+    fn plan_vram_writes(&mut self) {
+        let (incr, addr) = (self.word(), self.word());
+        self.put(8, incr);
+        self.put(9, addr);
+        for _ in 0..self.random.below(5) {
+            let (reg, word) = (self.random.pick(&[10, 11]), self.word());
+            self.put(reg, word);
+        }
+    }
+
+    fn plan_vram_reads(&mut self) {
+        let (incr, addr) = (self.word(), self.word());
+        self.put(6, incr);
+        self.put(7, addr);
+        for _ in 0..self.random.below(5) {
+            let reg = self.random.pick(&[10, 11]);
+            self.get(reg);
+        }
+    }
+
+    fn xr_address(&mut self) -> u16 {
+        match self.random.below(8) {
+            0 => self.random.word(),
+            1 => self.random.below(0x60) as u16,
+            2 => 0x4000 + self.random.below(5120) as u16,
+            3 => 0x8000 + self.random.below(512) as u16,
+            4 => 0xC000 + self.random.below(1024) as u16,
+            _ => self.random.pick(&XR_EDGES),
+        }
+    }
+
+    fn plan_xr_writes(&mut self) {
+        let addr = self.xr_address();
+        self.put(4, addr);
+        for _ in 0..1 + self.random.below(3) {
+            let word = self.word();
+            self.put(5, word);
+        }
+        if self.random.flip() {
+            self.put(3, addr);
+            self.get(5);
+            self.get(5);
+        }
+    }
+
+    fn plan_xr_reads(&mut self) {
+        let addr = self.xr_address();
+        self.put(3, addr);
+        for _ in 0..1 + self.random.below(3) {
+            self.get(5);
+        }
+    }
+
+    fn plan_countdown(&mut self) {
+        let interval = self.random.below(5) as u16;
+        self.put(2, interval);
+        for _ in 0..self.random.below(12) {
+            self.planned.push_back(Call::Tick);
+        }
+        self.get(2);
+    }
+
+    fn plan_interrupts(&mut self) {
+        let mask = self.random.byte() & if self.random.one_in(8) { 0xFF } else { 0x7F };
+        let clear = self.random.byte();
+        self.put(1, u16::from(mask) << 8 | u16::from(clear));
+        self.planned.push_back(Call::Line);
+        self.get(1);
+    }
+
+    fn plan_nibble_mask(&mut self) {
+        let mask = if self.random.flip() {
+            15
+        } else {
+            self.random.word()
+        };
+        self.put(0, mask);
+        self.get(0);
+    }
+
+    /// The blitter's registers, some or all of them, and a start or a queueing.
+    fn plan_blit(&mut self) {
+        let source = self.word();
+        let regs = [
+            self.blit_ctrl(),
+            self.logic(),
+            self.logic(),
+            self.word(),
+            source,
+            self.word(),
+            self.blit_target(source),
+            self.blit_shift(),
+            self.blit_lines(),
+            self.blit_words(),
+        ];
+        let from = match self.random.below(4) {
+            0 => self.random.below(10) as usize,
+            _ => 0,
+        };
+        self.put(4, 0x40 + from as u16);
+        for &word in &regs[from..] {
+            self.put(5, word);
+        }
+    }
+
+    /// `CTRL`: constant or not, every kind of colour test, sometimes bits without a meaning.
+    fn blit_ctrl(&mut self) -> u16 {
+        let constant = u16::from(self.random.one_in(3));
+        let test = self.random.pick(&[0x00, 0x00, 0x10, 0x10, 0x20, 0x30]);
+        let colour = match self.random.below(4) {
+            0 => u16::from(self.random.byte()),
+            _ => self.random.pick(&[0x00, 0x0A, 0xA0, 0xAA, 0xFF, 0xF0]),
+        };
+        let unused = match self.random.below(8) {
+            0 => self.random.word() & 0xCE,
+            _ => 0,
+        };
+        colour << 8 | test | constant | unused
+    }
+
+    /// `ANDC` and `XOR`.
+    fn logic(&mut self) -> u16 {
+        match self.random.flip() {
+            true => 0,
+            false => self.word(),
+        }
+    }
+
+    /// `DST_D`: often so near the source that the blit reads what it wrote.
+    fn blit_target(&mut self, source: u16) -> u16 {
+        let near = self.random.below(5) as u16;
+        match self.random.below(4) {
+            0 => source.wrapping_add(near),
+            1 => source.wrapping_sub(near),
+            _ => self.word(),
+        }
+    }
+
+    /// `SHIFT`: masks open or not, every shift, sometimes bits without a meaning.
+    fn blit_shift(&mut self) -> u16 {
+        let masks = match self.random.below(4) {
+            0 => 0xFF00,
+            _ => self.random.word() & 0xFF00,
+        };
+        let unused = match self.random.below(4) {
+            0 => self.random.word() & 0xFC,
+            _ => 0,
+        };
+        masks | unused | self.random.below(4) as u16
+    }
+
+    /// `LINES`: few, with bit 15 or without it, seldom the most there are or any number.
+    fn blit_lines(&mut self) -> u16 {
+        let few = self.random.below(4) as u16;
+        match self.random.below(100) {
+            0 => self.random.pick(&[MOST_LINES, 0xFFFF, 0x7FFE]),
+            1 => self.random.word(),
+            2..=25 => few | 0x8000,
+            _ => few,
+        }
+    }
+
+    /// `WORDS`: few, seldom many, seldom any number.
+    fn blit_words(&mut self) -> u16 {
+        match self.random.below(100) {
+            0 => self.random.word(),
+            1..=3 => self.random.below(1000) as u16,
+            _ => self.random.below(6) as u16,
+        }
+    }
+
+    /// Writes to the blitter's registers and beside them, refused while it is full.
+    fn plan_touch_full(&mut self) {
+        for _ in 0..1 + self.random.below(3) {
+            let (addr, word) = (
+                self.random.pick(&[0x3F, 0x40, 0x41, 0x48, 0x49, 0x4A]),
+                self.word(),
+            );
+            self.put(4, addr);
+            self.put(5, word);
+            self.get(4);
+        }
+    }
+
+    fn plan_steps(&mut self) {
+        for _ in 0..self.random.below(8) {
+            self.planned.push_back(Call::Step);
+        }
+        if self.random.flip() {
+            self.planned.push_back(Call::Run { n: 0 });
+        }
+    }
+
+    /// Some state within its ranges, reachable or not.
+    pub fn state_in_range(&mut self) -> xosera::State {
+        let mut s = self.any_state();
+        let r = &mut self.random;
+        s.host.vram.wr_mask &= 15;
+        s.host.int_mask &= 127;
+        s.status &= 127;
+        s.host.timer.interval = if r.flip() {
+            1 + r.below(4) as u16
+        } else {
+            r.word()
+        };
+        s.host.timer.countdown = match s.host.timer.interval {
+            0 => 0,
+            n => 1 + r.below(u64::from(n)) as u16,
+        };
+        if s.engine.running {
+            let e = &mut s.engine;
+            e.regs.lines &= MOST_LINES;
+            if r.one_in(4) {
+                e.regs.lines = MOST_LINES;
+            }
+            if r.one_in(8) {
+                e.regs.words = 0xFFFF;
+            }
+            e.line = e.regs.lines - (r.below(4) as u16).min(e.regs.lines);
+            e.word = e.regs.words - (r.below(4) as u16).min(e.regs.words);
+            if r.flip() {
+                e.line = r.below(u64::from(e.regs.lines) + 1) as u16;
+            }
+            if r.one_in(4) {
+                e.word = 0;
+            }
+            if e.word == 0 {
+                e.kept = 0;
+            }
+            if s.queued && r.flip() {
+                s.blit.lines = r.below(3) as u16 | s.blit.lines & 0x8000;
+                s.blit.words = r.below(5) as u16;
+            }
+        } else {
+            s.engine = xosera::Engine::default();
+            s.queued = false;
+        }
+        s
+    }
+
+    /// A state in range with one part pushed out of it, or a state of any bits.
+    pub fn state_out_of_range(&mut self, s: xosera::State) -> xosera::State {
+        let mut s = s;
+        let r = &mut self.random;
+        match r.below(14) {
+            0 => s.host.vram.wr_mask |= r.pick(&[16, 32, 64, 128]),
+            1 => s.host.int_mask |= 128,
+            2 => s.status |= 128,
+            3 => s.host.timer.countdown = s.host.timer.interval.wrapping_add(1),
+            4 => {
+                s.host.timer.countdown = 0;
+                s.host.timer.interval = 1 + r.below(0xFFFF) as u16;
+            }
+            5 => {
+                s.engine = xosera::Engine::default();
+                s.queued = true;
+            }
+            6 => {
+                s.engine.running = true;
+                s.engine.line = s.engine.regs.lines.wrapping_add(1);
+            }
+            7 => {
+                s.engine.running = true;
+                s.engine.word = s.engine.regs.words.wrapping_add(1);
+            }
+            8 => {
+                s.engine.running = true;
+                s.engine.regs.lines |= 0x8000;
+            }
+            9 => {
+                s.engine.running = true;
+                s.engine.word = 0;
+                s.engine.kept = 1 + r.below(0xFFFF) as u16;
+            }
+            10 => {
+                s.engine.running = false;
+                s.engine.kept = 1;
+            }
+            11 => {
+                s.engine.running = false;
+                let e = &mut s.engine;
+                let field = [
+                    &mut e.line,
+                    &mut e.word,
+                    &mut e.kept,
+                    &mut e.regs.ctrl,
+                    &mut e.regs.andc,
+                    &mut e.regs.xor,
+                    &mut e.regs.mod_s,
+                    &mut e.regs.src_s,
+                    &mut e.regs.mod_d,
+                    &mut e.regs.dst_d,
+                    &mut e.regs.shift,
+                    &mut e.regs.lines,
+                    &mut e.regs.words,
+                ];
+                let which = r.below(13) as usize;
+                for (i, f) in field.into_iter().enumerate() {
+                    *f = u16::from(i == which) << r.below(16);
+                }
+            }
+            12 => s.engine.running = !s.engine.running,
+            _ => s = self.any_state(),
+        }
+        s
+    }
+
+    /// A state of any bits.
+    fn any_state(&mut self) -> xosera::State {
+        let r = &mut self.random;
+        let mut s = xosera::State::default();
+        s.host.timer.count = if r.flip() { 0xFFFE } else { r.word() };
+        s.host.timer.countdown = r.word();
+        s.host.timer.interval = r.word();
+        s.host.timer.saved = r.byte();
+        s.host.xr.rd_xaddr.0 = r.pick(&XR_EDGES);
+        s.host.xr.wr_xaddr.0 = r.pick(&XR_EDGES);
+        s.host.xr.rd_xdata = r.word();
+        s.host.vram.rd_incr = r.word();
+        s.host.vram.rd_addr.0 = r.word();
+        s.host.vram.wr_incr = r.word();
+        s.host.vram.wr_addr.0 = r.word();
+        s.host.vram.rd_data = r.word();
+        s.host.vram.wr_mask = r.byte();
+        s.host.int_mask = r.byte();
+        for latch in s.host.latch.iter_mut() {
+            *latch = r.byte();
+        }
+        s.video.vid_ctrl = r.word();
+        s.video.copp_ctrl = r.word();
+        s.video.aud_ctrl = r.word();
+        s.video.vid_left = r.word();
+        s.video.vid_right = r.word();
+        for word in s.video.pa.iter_mut().chain(s.video.pb.iter_mut()) {
+            *word = r.word();
+        }
+        s.blit = any_blit(r);
+        s.engine.running = r.flip();
+        s.engine.line = r.word();
+        s.engine.word = r.word();
+        s.engine.kept = r.word();
+        s.engine.regs = any_blit(r);
+        s.queued = r.flip();
+        s.status = r.byte();
+        s
+    }
+}
+
+fn any_blit(r: &mut Random) -> xosera::BlitRegs {
+    let few = r.flip();
+    xosera::BlitRegs {
+        ctrl: r.word(),
+        andc: r.word(),
+        xor: r.word(),
+        mod_s: r.word(),
+        src_s: r.word(),
+        mod_d: r.word(),
+        dst_d: r.word(),
+        shift: r.word(),
+        lines: if few { r.below(4) as u16 } else { r.word() },
+        words: if few { r.below(6) as u16 } else { r.word() },
+    }
+}

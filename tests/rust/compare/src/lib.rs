@@ -1,0 +1,7 @@
+//! The library and the plain Rust model side by side.
+
+pub mod calls;
+pub mod convert;
+pub mod pair;
+pub mod random;
+pub mod settings;

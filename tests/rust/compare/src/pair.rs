@@ -1,0 +1,236 @@
+//! One call to the library and to the plain Rust model, from the same state and memories.
+
+use std::fmt;
+
+use crate::convert::{differences, to_model};
+use crate::random::Random;
+
+/// A call with its arguments.
+#[derive(Clone, Copy, Debug, PartialEq, Eq)]
+pub enum Call {
+    Reset,
+    Write { reg: u8, odd: bool, byte: u8 },
+    Read { reg: u8, odd: bool },
+    Step,
+    Run { n: u64 },
+    Tick,
+    FrameEnd,
+    Line,
+}
+
+/// What a call says beside the state: the refusal, and a byte, a count, or 1 for a line that is up.
+#[derive(Clone, Copy, Debug, PartialEq, Eq)]
+pub struct Said {
+    pub refusal: u8,
+    pub value: u64,
+}
+
+/// How many words of each memory a call is lent.
+#[derive(Clone, Copy, Debug, PartialEq, Eq)]
+pub struct Lent {
+    pub vram: usize,
+    pub xr: usize,
+}
+
+/// Memory with room on both sides that no call may touch.
+struct Memory {
+    words: Vec<u16>,
+}
+
+const MARGIN: usize = 16;
+
+impl Memory {
+    fn new(words: usize) -> Memory {
+        Memory {
+            words: vec![0; words + 2 * MARGIN],
+        }
+    }
+
+    fn lent(&mut self, n: usize) -> &mut [u16] {
+        &mut self.words[MARGIN..MARGIN + n]
+    }
+
+    fn room(&self) -> usize {
+        self.words.len() - 2 * MARGIN
+    }
+}
+
+/// Both sides' memories. The library and the model never see the other's.
+pub struct Pair {
+    library_vram: Memory,
+    library_xr: Memory,
+    model_vram: Memory,
+    model_xr: Memory,
+}
+
+/// Where the two disagreed.
+pub struct Mismatch {
+    pub call: Call,
+    pub lent: Lent,
+    pub before: xosera::State,
+    pub what: String,
+}
+
+impl fmt::Display for Mismatch {
+    fn fmt(&self, f: &mut fmt::Formatter<'_>) -> fmt::Result {
+        writeln!(f, "{}", self.what)?;
+        writeln!(f, "call   {:?}", self.call)?;
+        writeln!(f, "lent   {:?}", self.lent)?;
+        write!(f, "before {:#X?}", self.before)
+    }
+}
+
+impl Pair {
+    /// Room for the largest memories that will be lent, all words 0.
+    pub fn new(room: Lent) -> Pair {
+        Pair {
+            library_vram: Memory::new(room.vram),
+            library_xr: Memory::new(room.xr),
+            model_vram: Memory::new(room.vram),
+            model_xr: Memory::new(room.xr),
+        }
+    }
+
+    /// Fill both sides alike, with few different nibbles, so that colours often match.
+    pub fn fill(&mut self, random: &mut Random) {
+        let palette = [0, 0, random.word() & 0xF, random.word() & 0xF, 0xA, 0xF];
+        for word in self.library_vram.words.iter_mut() {
+            *word = if random.one_in(4) {
+                random.word()
+            } else {
+                (0..4).fold(0, |w, _| w << 4 | random.pick(&palette))
+            };
+        }
+        for word in self.library_xr.words.iter_mut() {
+            *word = random.word();
+        }
+        self.model_vram.words.clone_from(&self.library_vram.words);
+        self.model_xr.words.clone_from(&self.library_xr.words);
+    }
+
+    /// Do one call on both sides. State, answer, refusal and every word of both memories, also those
+    /// not lent, must agree; a refusal must leave all of them as they were. The state after it.
+    pub fn call(
+        &mut self,
+        before: xosera::State,
+        lent: Lent,
+        call: Call,
+    ) -> Result<(xosera::State, Said), Box<Mismatch>> {
+        let vram = self.library_vram.lent(lent.vram);
+        let xr = self.library_xr.lent(lent.xr);
+        let (after, said) = on_library(before, vram, xr, call);
+        let (model_after, model_said) = self.on_model(before, lent, call);
+        let wrong = |what: String| {
+            Err(Box::new(Mismatch {
+                call,
+                lent,
+                before,
+                what,
+            }))
+        };
+        if said != model_said {
+            return wrong(format!("library says {:?}, model {:?}", said, model_said));
+        }
+        if to_model(&after) != model_after {
+            let fields = differences(&to_model(&after), &model_after);
+            return wrong(format!("the state after it differs:\n{}", fields));
+        }
+        if said.refusal != 0 && after != before {
+            return wrong(format!("refused, but the state changed to {:#X?}", after));
+        }
+        let memories = [
+            ("VRAM", &self.library_vram, &self.model_vram),
+            ("XR memory", &self.library_xr, &self.model_xr),
+        ];
+        for (name, library, model) in memories {
+            if library.words != model.words {
+                let both = library.words.iter().zip(model.words.iter());
+                let (i, (l, m)) = both.enumerate().find(|(_, (l, m))| l != m).unwrap();
+                return wrong(format!(
+                    "{} word {}: library {:04X}, model {:04X}",
+                    name,
+                    i as i64 - MARGIN as i64,
+                    l,
+                    m
+                ));
+            }
+        }
+        Ok((after, said))
+    }
+
+    fn on_model(&mut self, s: xosera::State, lent: Lent, call: Call) -> (model::State, Said) {
+        let vram = self.model_vram.lent(lent.vram);
+        let xr = self.model_xr.lent(lent.xr);
+        let mut s = to_model(&s);
+        let answer = match call {
+            Call::Reset => {
+                s = model::State::reset();
+                Ok(0)
+            }
+            Call::Write { reg, odd, byte } => s.write_byte(vram, xr, reg, odd, byte).map(|()| 0),
+            Call::Read { reg, odd } => s.read_byte(vram, xr, reg, odd).map(u64::from),
+            Call::Step => s.blit_step(vram, xr),
+            Call::Run { n } => s.blit_run(vram, xr, n),
+            Call::Tick => s.timer_tick().map(|()| 0),
+            Call::FrameEnd => s.frame_end().map(|()| 0),
+            Call::Line => s.interrupt_line().map(u64::from),
+        };
+        let said = match answer {
+            Ok(value) => Said { refusal: 0, value },
+            Err(refusal) => Said {
+                refusal: refusal as u8,
+                value: 0,
+            },
+        };
+        (s, said)
+    }
+
+    /// The largest memories that can be lent.
+    pub fn room(&self) -> Lent {
+        Lent {
+            vram: self.library_vram.room(),
+            xr: self.library_xr.room(),
+        }
+    }
+}
+
+/// One call to the library: the state after it, and what it says.
+pub fn on_library(
+    s: xosera::State,
+    vram: &mut [u16],
+    xr: &mut [u16],
+    call: Call,
+) -> (xosera::State, Said) {
+    let said = |refusal, value| Said { refusal, value };
+    match call {
+        Call::Reset => (xosera::reset(), said(0, 0)),
+        Call::Write { reg, odd, byte } => {
+            let a = xosera::write_byte(s, vram, xr, reg, odd, byte);
+            (a.state, said(a.refusal, 0))
+        }
+        Call::Read { reg, odd } => {
+            let a = xosera::read_byte(s, vram, xr, reg, odd);
+            (a.state, said(a.refusal, u64::from(a.byte)))
+        }
+        Call::Step => {
+            let a = xosera::blit_step(s, vram, xr);
+            (a.state, said(a.refusal, a.count))
+        }
+        Call::Run { n } => {
+            let a = xosera::blit_run(s, vram, xr, n);
+            (a.state, said(a.refusal, a.count))
+        }
+        Call::Tick => {
+            let a = xosera::timer_tick(s);
+            (a.state, said(a.refusal, 0))
+        }
+        Call::FrameEnd => {
+            let a = xosera::frame_end(s);
+            (a.state, said(a.refusal, 0))
+        }
+        Call::Line => {
+            let a = xosera::interrupt_line(s);
+            (a.state, said(a.refusal, u64::from(a.up)))
+        }
+    }
+}

@@ -1,0 +1,203 @@
+//! Demand 3 on the library: a blit done word by word among other events ends as if it had been done
+//! whole at its start.
+//!
+//! XOSERA_SEED=n gives an earlier run's lists again; XOSERA_LISTS=n says how many (5,000 unless set).
+
+use compare::calls::{Calls, VRAM_LENGTHS};
+use compare::pair::{on_library, Call, Said};
+use compare::random::Random;
+use compare::settings::{number, seed};
+
+const BLITTER_BIT: u8 = 1 << 6;
+
+#[derive(Clone)]
+struct Adapter {
+    state: xosera::State,
+    vram: Vec<u16>,
+    xr: Vec<u16>,
+}
+
+impl Adapter {
+    fn call(&mut self, call: Call) -> Said {
+        let (after, said) = on_library(self.state, &mut self.vram, &mut self.xr, call);
+        self.state = after;
+        said
+    }
+
+    fn place(&self, addr: u16) -> usize {
+        addr as usize % self.vram.len()
+    }
+}
+
+/// The VRAM words that a blit reads and those that it may write, found by doing its steps alone. A
+/// word whose nibbles are all held back counts as written here, which only makes the lists tamer.
+struct Footprint {
+    reads: Vec<bool>,
+    writes: Vec<bool>,
+    words: u64,
+}
+
+fn footprint(started: &Adapter) -> Footprint {
+    let mut x = started.clone();
+    let mut f = Footprint {
+        reads: vec![false; x.vram.len()],
+        writes: vec![false; x.vram.len()],
+        words: 0,
+    };
+    while x.state.engine.running {
+        let regs = x.state.engine.regs;
+        if regs.ctrl & 1 == 0 {
+            f.reads[x.place(regs.src_s)] = true;
+        }
+        f.writes[x.place(regs.dst_d)] = true;
+        assert_eq!(
+            x.call(Call::Step),
+            Said {
+                refusal: 0,
+                value: 1
+            }
+        );
+        f.words += 1;
+    }
+    f
+}
+
+/// May this event stand in the list? Judged where it stands.
+fn allowed(x: &Adapter, f: &Footprint, call: Call) -> bool {
+    let port = &x.state.host.vram;
+    let latch = |reg: u8| u16::from(x.state.host.latch[reg as usize]) << 8;
+    match call {
+        Call::Reset => false,
+        Call::Write {
+            reg: 5, odd: true, ..
+        } => x.state.host.xr.wr_xaddr.0 != 0x49,
+        Call::Write {
+            reg: 7,
+            odd: true,
+            byte,
+        } => !f.writes[x.place(latch(7) | u16::from(byte))],
+        Call::Write {
+            reg: 10, odd: true, ..
+        }
+        | Call::Write {
+            reg: 11, odd: true, ..
+        } => {
+            let at = x.place(port.wr_addr.0);
+            port.wr_mask == 0 || !(f.reads[at] || f.writes[at])
+        }
+        Call::Read { reg: 10, odd: true } | Call::Read { reg: 11, odd: true } => {
+            !f.writes[x.place(port.rd_addr.0.wrapping_add(port.rd_incr))]
+        }
+        _ => true,
+    }
+}
+
+/// What the two orders must agree on: bit 6 as read at 1, bit 13 as read at 0 and the line may differ.
+fn agreed(call: Call, said: Said) -> Said {
+    let free = match call {
+        Call::Read { reg: 1, odd: true } => 0x40,
+        Call::Read { reg: 0, odd: false } => 0x20,
+        Call::Line => 1,
+        _ => 0,
+    };
+    Said {
+        value: said.value & !free,
+        ..said
+    }
+}
+
+/// One start and one list, in both orders. How many events it had, and how many beside the steps.
+fn one_list(list: u64, seed: u64) -> (u64, u64) {
+    let mut calls = Calls::new(Random::new(seed));
+    let length = VRAM_LENGTHS[calls.random().below(4) as usize];
+    let mut x = Adapter {
+        state: calls.state_in_range(),
+        vram: Vec::new(),
+        xr: Vec::new(),
+    };
+    x.vram = (0..length).map(|_| calls.random().word()).collect();
+    x.xr = (0..xosera::XR_WORDS)
+        .map(|_| calls.random().word())
+        .collect();
+
+    // Any idle adapter, about to start a blit of some 1 to 64 words.
+    x.state.engine = xosera::Engine::default();
+    x.state.queued = false;
+    x.state.host.xr.wr_xaddr.0 = 0x49;
+    x.state.host.latch[5] = 0;
+    x.state.blit.lines = calls.random().below(8) as u16 | x.state.blit.lines & 0x8000;
+    let words = calls.random().below(8) as u8;
+    let start = Call::Write {
+        reg: 5,
+        odd: true,
+        byte: words,
+    };
+    assert_eq!(x.call(start).refusal, 0);
+    let f = footprint(&x);
+    assert_eq!(
+        f.words,
+        (u64::from(x.state.engine.regs.lines) + 1) * (u64::from(words) + 1)
+    );
+
+    // The other order: the whole blit first.
+    let mut whole = x.clone();
+    for _ in 0..f.words {
+        whole.call(Call::Step);
+    }
+
+    let (mut steps, mut events, mut beside) = (0u64, 0, 0);
+    while steps < f.words || calls.random().below(20) != 0 {
+        let call = if steps < f.words && events > 200 {
+            Call::Run { n: f.words }
+        } else {
+            calls.next(&x.state)
+        };
+        if !allowed(&x, &f, call) {
+            continue;
+        }
+        events += 1;
+        let said = x.call(call);
+        match call {
+            Call::Step => steps = steps.saturating_add(1),
+            Call::Run { n } => steps = steps.saturating_add(n),
+            _ => {
+                beside += 1;
+                let other = whole.call(call);
+                assert_eq!(
+                    agreed(call, said),
+                    agreed(call, other),
+                    "list {}: {:?}",
+                    list,
+                    call
+                );
+            }
+        }
+    }
+    x.state.status &= !BLITTER_BIT;
+    whole.state.status &= !BLITTER_BIT;
+    assert_eq!(x.state, whole.state, "list {}: the states differ", list);
+    assert!(x.vram == whole.vram, "list {}: VRAM differs", list);
+    assert!(x.xr == whole.xr, "list {}: XR memory differs", list);
+    (events, beside)
+}
+
+#[test]
+fn the_order_does_not_matter() {
+    let seed = seed();
+    let lists = number("XOSERA_LISTS").unwrap_or(5_000);
+    println!(
+        "order: seed {} (XOSERA_SEED={} gives the lists again)",
+        seed, seed
+    );
+    let mut seeds = Random::new(seed);
+    let (mut events, mut beside) = (0, 0);
+    for list in 0..lists {
+        let (e, b) = one_list(list, seeds.number());
+        events += e;
+        beside += b;
+    }
+    println!(
+        "order: {} lists, {} events, {} of them beside the steps: both orders end alike",
+        lists, events, beside
+    );
+}

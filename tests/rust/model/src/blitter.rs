@@ -1,0 +1,177 @@
+//! "The blitter": starting, queueing, and one word at a time.
+
+use crate::{masked, nibble, place, Blit, Refusal, State};
+
+const BLITTER: u8 = 1 << 6;
+
+/// Words left in the running blit and in the queued one.
+pub fn words_left(s: &State) -> u64 {
+    let width = |b: &Blit| b.words as u64 + 1;
+    let height = |b: &Blit| b.lines as u64 % 32768 + 1;
+    let mut left = 0;
+    if s.running {
+        let done = s.line as u64 * width(&s.copied) + s.word as u64;
+        left += width(&s.copied) * height(&s.copied) - done;
+    }
+    if s.queued {
+        left += width(&s.blit) * height(&s.blit);
+    }
+    left
+}
+
+impl State {
+    /// A write to blitter register `i`, 0 for `CTRL` to 9 for `WORDS`.
+    pub(crate) fn blit_write(&mut self, i: usize, word: u16) {
+        match i {
+            0 => self.blit.ctrl = word,
+            1 => self.blit.andc = word,
+            2 => self.blit.xor = word,
+            3 => self.blit.mod_s = word,
+            4 => self.blit.src_s = word,
+            5 => self.blit.mod_d = word,
+            6 => self.blit.dst_d = word,
+            7 => self.blit.shift = word,
+            8 => self.blit.lines = word,
+            _ => {
+                self.blit.words = word;
+                if self.running {
+                    self.queued = true;
+                } else {
+                    self.start();
+                }
+            }
+        }
+    }
+
+    /// Copy all ten registers, `LINES` taken mod 32,768, and start.
+    fn start(&mut self) {
+        self.running = true;
+        self.copied = self.blit;
+        self.copied.lines %= 32768;
+        self.line = 0;
+        self.word = 0;
+        self.kept = 0;
+    }
+
+    /// One blit step: one word. Counts 1, or 0 when idle.
+    pub fn blit_step(&mut self, vram: &mut [u16], xr: &[u16]) -> Result<u64, Refusal> {
+        self.check(vram, xr)?;
+        if !self.running {
+            return Ok(0);
+        }
+        self.do_word(vram);
+        Ok(1)
+    }
+
+    /// A run of up to `n` steps; counts those that did a word.
+    pub fn blit_run(&mut self, vram: &mut [u16], xr: &[u16], n: u64) -> Result<u64, Refusal> {
+        self.check(vram, xr)?;
+        let mut count = 0;
+        while count < n && self.running {
+            self.do_word(vram);
+            count += 1;
+        }
+        Ok(count)
+    }
+
+    fn do_word(&mut self, vram: &mut [u16]) {
+        // 1 and 2: the source word, shifted.
+        let constant = self.copied.ctrl & 1 == 1;
+        let s = if constant {
+            self.kept = 0;
+            self.copied.src_s
+        } else {
+            let read = vram[place(self.copied.src_s, vram.len())];
+            self.copied.src_s = self.copied.src_s.wrapping_add(1);
+            let s = shifted(self.kept, read, self.copied.shift % 4);
+            self.kept = read;
+            s
+        };
+
+        // 3: the result.
+        let result = (s & !self.copied.andc) ^ self.copied.xor;
+
+        // 4: the nibbles that are not held back.
+        let first = self.word == 0;
+        let last = self.word == self.copied.words;
+        let mut mask = 0b1111;
+        if first {
+            mask &= self.copied.shift / 0x1000;
+        }
+        if last {
+            mask &= self.copied.shift / 0x100 % 16;
+        }
+        if self.copied.ctrl >> 4 & 1 == 1 {
+            mask &= !colour_held(s, self.copied.ctrl);
+        }
+        let at = place(self.copied.dst_d, vram.len());
+        vram[at] = masked(vram[at], result, mask);
+
+        // 5: on to the next word, line, or blit.
+        self.copied.dst_d = self.copied.dst_d.wrapping_add(1);
+        if !last {
+            self.word += 1;
+            return;
+        }
+        self.copied.src_s = self.copied.src_s.wrapping_add(self.copied.mod_s);
+        self.copied.dst_d = self.copied.dst_d.wrapping_add(self.copied.mod_d);
+        self.word = 0;
+        self.kept = 0;
+        if self.line < self.copied.lines {
+            self.line += 1;
+            return;
+        }
+        self.status |= BLITTER;
+        if self.queued {
+            self.queued = false;
+            self.start();
+        } else {
+            self.running = false;
+            self.copied = Blit::default();
+            self.line = 0;
+        }
+    }
+}
+
+/// The word moved right by `k` nibbles; the low nibbles of the word before enter at the top.
+fn shifted(before: u16, word: u16, k: u16) -> u16 {
+    let pair = before as u32 * 0x10000 + word as u32;
+    (pair >> (4 * k)) as u16
+}
+
+/// A four-bit mask of the nibbles that the colour test holds back: those of `s` equal to T, the upper
+/// byte of `CTRL`, its upper nibble for nibbles 0 and 2, its lower for 1 and 3. With bit 5 whole bytes.
+fn colour_held(s: u16, ctrl: u16) -> u16 {
+    let t = ctrl / 256;
+    let t_twice = t * 256 + t;
+    let equal = |i: u32| nibble(s, i) == nibble(t_twice, i);
+    let by_bytes = ctrl >> 5 & 1 == 1;
+    let held = |i: u32| {
+        if by_bytes {
+            let high = i / 2 * 2;
+            equal(high) && equal(high + 1)
+        } else {
+            equal(i)
+        }
+    };
+    (0..4).fold(0, |mask, i| mask << 1 | held(i) as u16)
+}
+
+#[cfg(test)]
+mod tests {
+    use super::*;
+
+    #[test]
+    fn the_shifter_moves_whole_nibbles() {
+        assert_eq!(shifted(0, 0x1234, 1), 0x0123);
+        assert_eq!(shifted(0x1234, 0x5678, 1), 0x4567);
+        assert_eq!(shifted(0x1234, 0x5678, 3), 0x2345);
+        assert_eq!(shifted(0x1234, 0x5678, 0), 0x5678);
+    }
+
+    #[test]
+    fn the_colour_test_holds_back_equal_nibbles_or_bytes() {
+        assert_eq!(colour_held(0x0B0A, 0x0A10), 0b1011);
+        assert_eq!(colour_held(0x0B0A, 0x0A30), 0b0011);
+    }
+}

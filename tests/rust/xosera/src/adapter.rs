@@ -1,0 +1,121 @@
+//! A state with its two memories, and refusals as errors.
+
+use std::fmt;
+
+use crate::{State, XR_WORDS};
+
+/// A refused call, by document 01's number. It changed nothing.
+#[derive(Clone, Copy, Debug, PartialEq, Eq)]
+pub struct Refusal(pub u8);
+
+impl fmt::Display for Refusal {
+    fn fmt(&self, f: &mut fmt::Formatter<'_>) -> fmt::Result {
+        let text = match self.0 {
+            1 => "VRAM length is no power of two from 256 to 65536",
+            2 => "XR memory is not 6656 words",
+            3 => "state out of its ranges",
+            4 => "register number over 15",
+            5 => "blitter register written while the blitter is full",
+            6 => "XM_INT_CTRL written with bit 15 set",
+            _ => "unknown refusal",
+        };
+        write!(f, "refusal {}: {}", self.0, text)
+    }
+}
+
+impl std::error::Error for Refusal {}
+
+/// An adapter that owns its memories. All fields are open: a test may set up any situation.
+#[derive(Clone, Debug, PartialEq, Eq)]
+pub struct Adapter {
+    pub state: State,
+    pub vram: Vec<u16>,
+    pub xr: Vec<u16>,
+}
+
+impl Adapter {
+    /// A reset adapter over memories full of 0.
+    pub fn new(vram_words: usize) -> Adapter {
+        Adapter {
+            state: crate::reset(),
+            vram: vec![0; vram_words],
+            xr: vec![0; XR_WORDS],
+        }
+    }
+
+    fn take(&mut self, state: State, refusal: u8) -> Result<(), Refusal> {
+        self.state = state;
+        match refusal {
+            0 => Ok(()),
+            number => Err(Refusal(number)),
+        }
+    }
+
+    pub fn write_byte(&mut self, reg: u8, odd: bool, byte: u8) -> Result<(), Refusal> {
+        let a = crate::write_byte(self.state, &mut self.vram, &mut self.xr, reg, odd, byte);
+        self.take(a.state, a.refusal)
+    }
+
+    pub fn read_byte(&mut self, reg: u8, odd: bool) -> Result<u8, Refusal> {
+        let a = crate::read_byte(self.state, &self.vram, &self.xr, reg, odd);
+        self.take(a.state, a.refusal)?;
+        Ok(a.byte)
+    }
+
+    /// The even byte, then the odd one.
+    pub fn write_word(&mut self, reg: u8, word: u16) -> Result<(), Refusal> {
+        self.write_byte(reg, false, (word >> 8) as u8)?;
+        self.write_byte(reg, true, (word & 0xFF) as u8)
+    }
+
+    /// The even byte, then the odd one.
+    pub fn read_word(&mut self, reg: u8) -> Result<u16, Refusal> {
+        let high = self.read_byte(reg, false)?;
+        let low = self.read_byte(reg, true)?;
+        Ok(u16::from(high) << 8 | u16::from(low))
+    }
+
+    /// Write a word in the XR space.
+    pub fn write_xr(&mut self, xaddr: u16, word: u16) -> Result<(), Refusal> {
+        self.write_word(crate::XM_WR_XADDR, xaddr)?;
+        self.write_word(crate::XM_XDATA, word)
+    }
+
+    /// Read a word in the XR space.
+    pub fn read_xr(&mut self, xaddr: u16) -> Result<u16, Refusal> {
+        self.write_word(crate::XM_RD_XADDR, xaddr)?;
+        self.read_word(crate::XM_XDATA)
+    }
+
+    /// One word of blitting; 1, or 0 when idle.
+    pub fn blit_step(&mut self) -> Result<u64, Refusal> {
+        let a = crate::blit_step(self.state, &mut self.vram, &self.xr);
+        self.take(a.state, a.refusal)?;
+        Ok(a.count)
+    }
+
+    /// Up to `n` words of blitting; how many were done.
+    pub fn blit_run(&mut self, n: u64) -> Result<u64, Refusal> {
+        let a = crate::blit_run(self.state, &mut self.vram, &self.xr, n);
+        self.take(a.state, a.refusal)?;
+        Ok(a.count)
+    }
+
+    pub fn timer_tick(&mut self) -> Result<(), Refusal> {
+        let a = crate::timer_tick(self.state);
+        self.take(a.state, a.refusal)
+    }
+
+    pub fn frame_end(&mut self) -> Result<(), Refusal> {
+        let a = crate::frame_end(self.state);
+        self.take(a.state, a.refusal)
+    }
+
+    pub fn interrupt_line(&self) -> Result<bool, Refusal> {
+        let a = crate::interrupt_line(self.state);
+        match a.refusal {
+            0 => Ok(a.up),
+            number => Err(Refusal(number)),
+        }
+    }
+}

@@ -1,0 +1,153 @@
+//! The library's structs, field by field, and the main registers' numbers.
+
+pub const XM_SYS_CTRL: u8 = 0;
+pub const XM_INT_CTRL: u8 = 1;
+pub const XM_TIMER: u8 = 2;
+pub const XM_RD_XADDR: u8 = 3;
+pub const XM_WR_XADDR: u8 = 4;
+pub const XM_XDATA: u8 = 5;
+pub const XM_RD_INCR: u8 = 6;
+pub const XM_RD_ADDR: u8 = 7;
+pub const XM_WR_INCR: u8 = 8;
+pub const XM_WR_ADDR: u8 = 9;
+pub const XM_DATA: u8 = 10;
+pub const XM_DATA_2: u8 = 11;
+
+/// Words of XR memory.
+pub const XR_WORDS: usize = 6656;
+
+/// An address in VRAM.
+#[repr(C)]
+#[derive(Clone, Copy, Debug, Default, PartialEq, Eq)]
+pub struct VramAddr(pub u16);
+
+/// An address in the XR space.
+#[repr(C)]
+#[derive(Clone, Copy, Debug, Default, PartialEq, Eq)]
+pub struct XrAddr(pub u16);
+
+#[repr(C)]
+#[derive(Clone, Copy, Debug, Default, PartialEq, Eq)]
+pub struct Timer {
+    pub count: u16,
+    pub countdown: u16,
+    pub interval: u16,
+    pub saved: u8,
+}
+
+#[repr(C)]
+#[derive(Clone, Copy, Debug, Default, PartialEq, Eq)]
+pub struct XrPort {
+    pub rd_xaddr: XrAddr,
+    pub wr_xaddr: XrAddr,
+    pub rd_xdata: u16,
+}
+
+#[repr(C)]
+#[derive(Clone, Copy, Debug, Default, PartialEq, Eq)]
+pub struct VramPort {
+    pub rd_incr: u16,
+    pub rd_addr: VramAddr,
+    pub wr_incr: u16,
+    pub wr_addr: VramAddr,
+    pub rd_data: u16,
+    pub wr_mask: u8,
+}
+
+#[repr(C)]
+#[derive(Clone, Copy, Debug, Default, PartialEq, Eq)]
+pub struct Host {
+    pub timer: Timer,
+    pub xr: XrPort,
+    pub vram: VramPort,
+    pub int_mask: u8,
+    pub latch: [u8; 16],
+}
+
+#[repr(C)]
+#[derive(Clone, Copy, Debug, Default, PartialEq, Eq)]
+pub struct Video {
+    pub vid_ctrl: u16,
+    pub copp_ctrl: u16,
+    pub aud_ctrl: u16,
+    pub vid_left: u16,
+    pub vid_right: u16,
+    pub pa: [u16; 7],
+    pub pb: [u16; 7],
+}
+
+#[repr(C)]
+#[derive(Clone, Copy, Debug, Default, PartialEq, Eq)]
+pub struct BlitRegs {
+    pub ctrl: u16,
+    pub andc: u16,
+    pub xor: u16,
+    pub mod_s: u16,
+    pub src_s: u16,
+    pub mod_d: u16,
+    pub dst_d: u16,
+    pub shift: u16,
+    pub lines: u16,
+    pub words: u16,
+}
+
+#[repr(C)]
+#[derive(Clone, Copy, Debug, Default, PartialEq, Eq)]
+pub struct Engine {
+    pub running: bool,
+    pub line: u16,
+    pub word: u16,
+    pub kept: u16,
+    pub regs: BlitRegs,
+}
+
+/// The whole state but for the memories. [`crate::reset`] makes one; `default` is all 0.
+#[repr(C)]
+#[derive(Clone, Copy, Debug, Default, PartialEq, Eq)]
+pub struct State {
+    pub host: Host,
+    pub video: Video,
+    pub blit: BlitRegs,
+    pub engine: Engine,
+    pub queued: bool,
+    pub status: u8,
+}
+
+/// In every answer `refusal` is 0 for done.
+#[repr(C)]
+#[derive(Clone, Copy, Debug, PartialEq, Eq)]
+pub struct WriteAnswer {
+    pub state: State,
+    pub refusal: u8,
+}
+
+#[repr(C)]
+#[derive(Clone, Copy, Debug, PartialEq, Eq)]
+pub struct ReadAnswer {
+    pub state: State,
+    pub refusal: u8,
+    pub byte: u8,
+}
+
+#[repr(C)]
+#[derive(Clone, Copy, Debug, PartialEq, Eq)]
+pub struct BlitAnswer {
+    pub state: State,
+    pub refusal: u8,
+    pub count: u64,
+}
+
+#[repr(C)]
+#[derive(Clone, Copy, Debug, PartialEq, Eq)]
+pub struct StateAnswer {
+    pub state: State,
+    pub refusal: u8,
+}
+
+#[repr(C)]
+#[derive(Clone, Copy, Debug, PartialEq, Eq)]
+pub struct LineAnswer {
+    pub state: State,
+    pub refusal: u8,
+    pub up: bool,
+}

@@ -1,0 +1,128 @@
+//! Safe Rust calls to `libfirmware.a`, the model of the Xosera video adapter.
+//!
+//! The functions at the top level are the library's own eight calls, with the memories as slices.
+//! [`Adapter`] owns a state and both memories and answers with `Result`.
+//!
+//! ```
+//! use xosera::Adapter;
+//!
+//! let mut x = Adapter::new(65536);
+//! x.write_word(xosera::XM_WR_INCR, 1)?;
+//! x.write_word(xosera::XM_WR_ADDR, 0x1000)?;
+//! x.write_word(xosera::XM_DATA, 0xBEEF)?;
+//! assert_eq!(x.vram[0x1000], 0xBEEF);
+//! # Ok::<(), xosera::Refusal>(())
+//! ```
+
+mod adapter;
+mod layout;
+
+pub use adapter::{Adapter, Refusal};
+pub use layout::*;
+
+mod ffi {
+    use crate::layout::*;
+
+    extern "C" {
+        pub fn xosera_reset() -> State;
+        pub fn xosera_write_byte(
+            s: State,
+            vram: *mut u16,
+            vram_len: usize,
+            xr: *mut u16,
+            xr_len: usize,
+            reg: u8,
+            odd: bool,
+            byte: u8,
+        ) -> WriteAnswer;
+        pub fn xosera_read_byte(
+            s: State,
+            vram: *const u16,
+            vram_len: usize,
+            xr: *const u16,
+            xr_len: usize,
+            reg: u8,
+            odd: bool,
+        ) -> ReadAnswer;
+        pub fn xosera_blit_step(
+            s: State,
+            vram: *mut u16,
+            vram_len: usize,
+            xr: *const u16,
+            xr_len: usize,
+        ) -> BlitAnswer;
+        pub fn xosera_blit_run(
+            s: State,
+            vram: *mut u16,
+            vram_len: usize,
+            xr: *const u16,
+            xr_len: usize,
+            n: u64,
+        ) -> BlitAnswer;
+        pub fn xosera_timer_tick(s: State) -> StateAnswer;
+        pub fn xosera_frame_end(s: State) -> StateAnswer;
+        pub fn xosera_interrupt_line(s: State) -> LineAnswer;
+    }
+}
+
+// SAFETY, for every call below: the structs are `repr(C)` with the library's fields and are passed by
+// value; a slice is its pointer and its length in words, lent for the call alone and, where it is
+// `&mut`, to nobody else. The library takes slices of any length and any state.
+
+/// The state after reset.
+pub fn reset() -> State {
+    unsafe { ffi::xosera_reset() }
+}
+
+/// The host writes the high (`odd` false) or low byte of main register `reg`.
+pub fn write_byte(
+    s: State,
+    vram: &mut [u16],
+    xr: &mut [u16],
+    reg: u8,
+    odd: bool,
+    byte: u8,
+) -> WriteAnswer {
+    let (v, vn) = (vram.as_mut_ptr(), vram.len());
+    unsafe { ffi::xosera_write_byte(s, v, vn, xr.as_mut_ptr(), xr.len(), reg, odd, byte) }
+}
+
+/// The host reads the high (`odd` false) or low byte of main register `reg`.
+pub fn read_byte(s: State, vram: &[u16], xr: &[u16], reg: u8, odd: bool) -> ReadAnswer {
+    unsafe {
+        ffi::xosera_read_byte(
+            s,
+            vram.as_ptr(),
+            vram.len(),
+            xr.as_ptr(),
+            xr.len(),
+            reg,
+            odd,
+        )
+    }
+}
+
+/// The blitter does one word.
+pub fn blit_step(s: State, vram: &mut [u16], xr: &[u16]) -> BlitAnswer {
+    unsafe { ffi::xosera_blit_step(s, vram.as_mut_ptr(), vram.len(), xr.as_ptr(), xr.len()) }
+}
+
+/// The blitter does up to `n` words.
+pub fn blit_run(s: State, vram: &mut [u16], xr: &[u16], n: u64) -> BlitAnswer {
+    unsafe { ffi::xosera_blit_run(s, vram.as_mut_ptr(), vram.len(), xr.as_ptr(), xr.len(), n) }
+}
+
+/// A tenth of a millisecond passes.
+pub fn timer_tick(s: State) -> StateAnswer {
+    unsafe { ffi::xosera_timer_tick(s) }
+}
+
+/// The visible picture ends.
+pub fn frame_end(s: State) -> StateAnswer {
+    unsafe { ffi::xosera_frame_end(s) }
+}
+
+/// Is the interrupt line up?
+pub fn interrupt_line(s: State) -> LineAnswer {
+    unsafe { ffi::xosera_interrupt_line(s) }
+}

@@ -1,0 +1,63 @@
+//! The owning adapter: words, the XR space, blits, and refusals as errors.
+
+use xosera::{Adapter, Refusal, XM_DATA, XM_INT_CTRL, XM_RD_ADDR, XM_SYS_CTRL, XM_WR_ADDR};
+
+#[test]
+fn words_go_in_and_come_back() {
+    let mut x = Adapter::new(256);
+    x.write_word(XM_WR_ADDR, 0x20).unwrap();
+    x.write_word(XM_DATA, 0xCAFE).unwrap();
+    x.write_word(XM_RD_ADDR, 0x20).unwrap();
+    assert_eq!(x.read_word(XM_DATA), Ok(0xCAFE));
+    x.write_xr(0x8001, 0x0ABC).unwrap();
+    assert_eq!(x.read_xr(0x8001), Ok(0x0ABC));
+    assert_eq!(x.xr[5121], 0x0ABC);
+}
+
+#[test]
+fn a_blit_takes_a_step_a_word() {
+    let mut x = Adapter::new(256);
+    for (xaddr, word) in [
+        (0x40, 1),
+        (0x44, 0x5555),
+        (0x46, 0x10),
+        (0x47, 0xFF00),
+        (0x49, 2),
+    ] {
+        x.write_xr(xaddr, word).unwrap();
+    }
+    assert_eq!(x.read_word(XM_SYS_CTRL), Ok(0x200F));
+    assert_eq!(x.blit_step(), Ok(1));
+    assert_eq!(x.vram[0x10..0x14], [0x5555, 0, 0, 0]);
+    assert_eq!(x.blit_run(u64::MAX), Ok(2));
+    assert_eq!(x.vram[0x10..0x14], [0x5555, 0x5555, 0x5555, 0]);
+    assert_eq!(x.blit_step(), Ok(0));
+}
+
+#[test]
+fn time_raises_the_line() {
+    let mut x = Adapter::new(256);
+    x.write_word(XM_INT_CTRL, 0x3000).unwrap();
+    assert_eq!(x.interrupt_line(), Ok(false));
+    x.frame_end().unwrap();
+    assert_eq!(x.interrupt_line(), Ok(true));
+    x.write_word(XM_INT_CTRL, 0x3010).unwrap();
+    assert_eq!(x.interrupt_line(), Ok(false));
+    x.write_word(xosera::XM_TIMER, 1).unwrap();
+    x.timer_tick().unwrap();
+    assert_eq!(x.read_word(XM_INT_CTRL), Ok(0x3020));
+}
+
+#[test]
+fn a_refusal_is_an_error_and_changes_nothing() {
+    let mut x = Adapter::new(256);
+    let before = x.clone();
+    assert_eq!(x.write_byte(16, true, 1), Err(Refusal(4)));
+    assert_eq!(x.read_byte(255, false), Err(Refusal(4)));
+    assert_eq!(x, before);
+    assert_eq!(Refusal(4).to_string(), "refusal 4: register number over 15");
+    assert_eq!(Adapter::new(300).blit_step(), Err(Refusal(1)));
+    x.state.status = 128;
+    assert_eq!(x.interrupt_line(), Err(Refusal(3)));
+    assert_eq!(x.timer_tick(), Err(Refusal(3)));
+}
