@@ -19,6 +19,18 @@ none-left : (s : State) (v x : List ℕ) → Ready s → s .engine .running ≡ 
 unfolding wordsLeft
 none-left s v x r h = rw (idle-left (s .engine) h, idle-unqueued s r h)
 
+-- With no steps left over a second run has nothing to do.
+pub none-over : {s : State} {v : List ℕ} {n : ℕ} {p : Part} {u : List ℕ} → OneBlit s v n p u → p .left ≡ 0 → OneBlit (p .state) u (p .left) p u
+none-over one z = record {
+  reached = λ x. refl;
+  words-left = λ x. refl;
+  fewer = omega arith;
+  ready = one .ready;
+  vram-length = refl;
+  unqueued = λ h. absurd (h z);
+  idle = λ h _. absurd (h z);
+}
+
 module _ {s : State} {v : List ℕ} {n : ℕ} {p : Part} {u : List ℕ} {q : Part} {w : List ℕ}
     (one : OneBlit s v n p u) (two : OneBlit (p .state) u (p .left) q w) (x : List ℕ) where
   -- If steps are left over, the engine is idle.

@@ -92,7 +92,10 @@ pub fn run(s: State, vram: &mut [u16], n: u64) -> Part
     ensures counted { λ r. ⌜ ((x : List ℕ) → (r .left ≤ n) × (n - r .left ≡ min n (wordsLeft (adapter s (now (vram .entry)) x)))) ⌝ }
 {
     let first = run_one(s, vram, n);
-    let state = first.state;
     let left = first.left;
+    if left == 0 {
+        return first;
+    }
+    let state = first.state;
     run_one(state, vram, left)
 }

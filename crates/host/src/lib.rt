@@ -25,10 +25,10 @@ pub fn fill_latch(h: Host, reg: u8, byte: u8) -> Host
     requires { ⌜ reg < 16 ⌝ }
     ensures { λ r. ⌜ r ≡ latched h reg byte ⌝ }
 {
-    let mut latches = h.latches;
-    latches[reg as usize] = byte;
+    let mut filled = h.latches;
+    filled[reg as usize] = byte;
     let mut next = h;
-    next.latches = latches;
+    next.latches = filled;
     next
 }
 

@@ -39,11 +39,11 @@ pub struct VramPort {
 // The main registers, the interrupt status apart.
 #[repr(C)]
 pub struct Host {
-    pub timer: Timer,
+    pub latches: [u8; 16],
     pub xr: XrPort,
     pub vram: VramPort,
+    pub timer: Timer,
     pub intmask: u8,
-    pub latches: [u8; 16],
 }
 
 // The stored registers of the XR space: 0x00 to 0x05 but 0x03, which is not stored, and seven each from
@@ -89,11 +89,11 @@ pub struct Engine {
 #[repr(C)]
 pub struct State {
     pub host: Host,
-    pub video: Video,
-    pub blit: BlitRegs,
-    pub engine: Engine,
     pub queued: bool,
     pub status: u8,
+    pub engine: Engine,
+    pub video: Video,
+    pub blit: BlitRegs,
 }
 
 // What writing a byte answers. In every answer `refusal` is 0 for done.

@@ -5,12 +5,12 @@ use borrow.Author.Needs.{needs}
 use Rattle.host.proofs.fill_latch.Statement.{statement}
 use Rattle.host.proofs.fill_latch.Tie as tie
 
-array-write-latches : tie.Need-array-write-latches
-array-write-latches c = search needs
+array-write-filled : tie.Need-array-write-filled
+array-write-filled c = search needs
 
 returns : tie.Need-returns
 unfolding latched
 returns c = refl
 
 pub fill-latch-spec : {M : Type 1} → statement M
-fill-latch-spec = tie.close (tie.spec array-write-latches returns)
+fill-latch-spec = tie.close (tie.spec array-write-filled returns)
