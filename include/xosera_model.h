@@ -238,11 +238,11 @@ typedef struct xosera_vram_port {
 
 /* The main registers, the interrupt status apart. */
 typedef struct xosera_host {
-    xosera_timer timer;
+    uint8_t latch[XOSERA_MAIN_REGS]; /* high byte of each register, as last written */
     xosera_xr_port xr;
     xosera_vram_port vram;
-    uint8_t int_mask;                /* at most 127 */
-    uint8_t latch[XOSERA_MAIN_REGS]; /* high byte of each register, as last written */
+    xosera_timer timer;
+    uint8_t int_mask; /* at most 127 */
 } xosera_host;
 
 /* The stored XR registers 0x00 to 0x05, 0x10 to 0x16 and 0x18 to 0x1E. */
@@ -282,11 +282,11 @@ typedef struct xosera_engine {
 /* The whole state of the adapter but for its memories. A plain value: copy it to save it. */
 typedef struct xosera_state {
     xosera_host host;
-    xosera_video video;
-    xosera_blit_regs blit; /* as the host wrote them; a queued blit waits here */
-    xosera_engine engine;
     bool queued;    /* only while running: the blitter is full */
     uint8_t status; /* interrupt status, at most 127 */
+    xosera_engine engine;
+    xosera_video video;
+    xosera_blit_regs blit; /* as the host wrote them; a queued blit waits here */
 } xosera_state;
 
 /* Answers: `refusal` is one of xosera_refusal. */
@@ -353,11 +353,11 @@ XOSERA_AT(xosera_vram_port, rd_data, 8);
 XOSERA_AT(xosera_vram_port, wr_mask, 10);
 
 XOSERA_SIZE(xosera_host, 44);
-XOSERA_AT(xosera_host, timer, 0);
-XOSERA_AT(xosera_host, xr, 8);
-XOSERA_AT(xosera_host, vram, 14);
-XOSERA_AT(xosera_host, int_mask, 26);
-XOSERA_AT(xosera_host, latch, 27);
+XOSERA_AT(xosera_host, timer, 34);
+XOSERA_AT(xosera_host, xr, 16);
+XOSERA_AT(xosera_host, vram, 22);
+XOSERA_AT(xosera_host, int_mask, 42);
+XOSERA_AT(xosera_host, latch, 0);
 
 XOSERA_SIZE(xosera_video, 38);
 XOSERA_AT(xosera_video, vid_ctrl, 0);
@@ -389,11 +389,11 @@ XOSERA_AT(xosera_engine, regs, 8);
 
 XOSERA_SIZE(xosera_state, 132);
 XOSERA_AT(xosera_state, host, 0);
-XOSERA_AT(xosera_state, video, 44);
-XOSERA_AT(xosera_state, blit, 82);
-XOSERA_AT(xosera_state, engine, 102);
-XOSERA_AT(xosera_state, queued, 130);
-XOSERA_AT(xosera_state, status, 131);
+XOSERA_AT(xosera_state, video, 74);
+XOSERA_AT(xosera_state, blit, 112);
+XOSERA_AT(xosera_state, engine, 46);
+XOSERA_AT(xosera_state, queued, 44);
+XOSERA_AT(xosera_state, status, 45);
 
 XOSERA_SIZE(xosera_write_answer, 134);
 XOSERA_AT(xosera_write_answer, refusal, 132);

@@ -57,11 +57,11 @@ pub struct VramPort {
 #[repr(C)]
 #[derive(Clone, Copy, Debug, Default, PartialEq, Eq)]
 pub struct Host {
-    pub timer: Timer,
+    pub latch: [u8; 16],
     pub xr: XrPort,
     pub vram: VramPort,
+    pub timer: Timer,
     pub int_mask: u8,
-    pub latch: [u8; 16],
 }
 
 #[repr(C)]
@@ -106,11 +106,11 @@ pub struct Engine {
 #[derive(Clone, Copy, Debug, Default, PartialEq, Eq)]
 pub struct State {
     pub host: Host,
-    pub video: Video,
-    pub blit: BlitRegs,
-    pub engine: Engine,
     pub queued: bool,
     pub status: u8,
+    pub engine: Engine,
+    pub video: Video,
+    pub blit: BlitRegs,
 }
 
 /// In every answer `refusal` is 0 for done.
