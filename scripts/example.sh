@@ -1,0 +1,12 @@
+#!/bin/sh
+# Builds the library and draws the telescope's cross, then the cross with last spring's fault.
+# Installs what Debian has and this machine lacks.
+set -eu
+cd "$(dirname "$0")/.."
+. scripts/setup.sh
+need gcc command -v gcc
+need libc6-dev test -e /usr/include/stdint.h
+need make command -v make
+install_missing
+make lib
+make example
