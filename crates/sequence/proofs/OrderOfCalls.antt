@@ -32,7 +32,8 @@ calls-alike a b es c d told first starts keeps p q =
     let fs : List Event = blitFirst (wordsOf s) es in
     let alike : Alike s es fs = demand-3 a b es starts keeps in
     record {
-        ends = ap butBit6 (p .leaves) ∙ alike .ends ∙ sym (ap butBit6 (q .leaves));
-        answer-alike =
-            ap (agreedAnswers es) (p .answered) ∙ compared s es ∙ alike .answer-alike
-            ∙ sym (ap (agreedAnswers fs) (q .answered) ∙ compared s fs) }
+      ends = ap butBit6 (p .leaves) ∙ alike .ends ∙ sym (ap butBit6 (q .leaves));
+      answer-alike =
+          ap (agreedAnswers es) (p .answered) ∙ compared s es ∙ alike .answer-alike
+          ∙ sym (ap (agreedAnswers fs) (q .answered) ∙ compared s fs);
+    }
