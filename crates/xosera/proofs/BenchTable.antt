@@ -10,8 +10,10 @@ use Rattle.xosera.specs.Adapter.{changed}
 use Rattle.xosera.specs.XrSpace.{within, isBlitRegister, playfieldRead, registerRead, xrRead, put, videoWrite, blitWrite, xrMemoryWrite, xrWrite}
 use Rattle.xosera.specs.HostBytes.{wordOf, latched, xrLoaded, vramLoad, writeWord, writeByte, shown, highByte, lowByte, timerSaved, readByte}
 use Rattle.xosera.specs.TimerTick.{expires, counted, ticked, tick, frameEnd}
-use Rattle.xosera.specs.Blitter.{launched, isConstant, fetched, sourced, firstMask, lastWord, lastMask, testMask, writeMask, drawing, drawn, lastStep, nextSource, nextDest, nextKept, next, succeeding, stepped, steps, blitWords, engineLeft, wordsLeft}
-use Rattle.xosera.specs.Refusals.{timerInRange, hostInRange, runningInRange, isNoRegs, idleInRange, engineInRange, inRange, badVram, badXr, badState, badRegister, blitterFull, reconfigures, applying, lowest, refusal}
+use Rattle.xosera.specs.Blitter.{launched, isConstant, fetched, sourced, firstMask, lastWord, lastMask, testMask, writeMask, drawing, drawn, lastStep}
+use Rattle.xosera.specs.Blitter.{nextSource, nextDest, nextKept, next, succeeding, stepped, steps, blitWords, engineLeft, wordsLeft}
+use Rattle.xosera.specs.Refusals.{timerInRange, areBytes, hostInRange, runningInRange, isNoRegs, idleInRange, engineInRange, inRange}
+use Rattle.xosera.specs.Refusals.{badVram, badXr, badState, badRegister, blitterFull, reconfigures, tests, first, refusal}
 use Rattle.xosera.specs.Calls.{actOf, vramLoaded, startedEngine, perform, done, after, lineUp, given, answer}
 use Rattle.xosera.specs.Sequences.{afterAll}
 use Rattle.xosera.specs.BenchTable.{Row, table, TableHolds}
@@ -44,7 +46,15 @@ all-equal (r ∷ rows) t =
     ap₂ _∷_ (same-equal (r .gives) (r .should) (h .0)) (all-equal rows (h .1))
 
 computed : T (allSame table)
-unfolding wrap bit nibble chosen merged shifted combined isColour colourMask isVramLength isXrLength place word stored changed within isBlitRegister playfieldRead registerRead xrRead put videoWrite blitWrite xrMemoryWrite xrWrite wordOf latched xrLoaded vramLoad writeWord writeByte shown highByte lowByte timerSaved readByte expires counted ticked tick frameEnd launched isConstant fetched sourced firstMask lastWord lastMask testMask writeMask drawing drawn lastStep nextSource nextDest nextKept next succeeding stepped steps blitWords engineLeft wordsLeft timerInRange hostInRange runningInRange isNoRegs idleInRange engineInRange inRange badVram badXr badState badRegister blitterFull reconfigures applying lowest refusal actOf vramLoaded startedEngine perform done after lineUp given answer afterAll
+unfolding wrap bit nibble chosen merged shifted combined isColour colourMask isVramLength isXrLength place word stored changed
+    within isBlitRegister playfieldRead registerRead xrRead put videoWrite blitWrite xrMemoryWrite xrWrite
+    wordOf latched xrLoaded vramLoad writeWord writeByte shown highByte lowByte timerSaved readByte
+    expires counted ticked tick frameEnd
+    launched isConstant fetched sourced firstMask lastWord lastMask testMask writeMask drawing drawn lastStep
+    nextSource nextDest nextKept next succeeding stepped steps blitWords engineLeft wordsLeft
+    timerInRange areBytes hostInRange runningInRange isNoRegs idleInRange engineInRange inRange
+    badVram badXr badState badRegister blitterFull reconfigures tests first refusal
+    actOf vramLoaded startedEngine perform done after lineUp given answer afterAll
 computed = tt
 
 pub bench-table : TableHolds

@@ -7,14 +7,16 @@ use lib.Dec.{T}
 use lib.ListN.{replicate}
 use Rattle.xosera.specs.Words.{wrap, bit, nibble, chosen, merged, shifted, combined, isColour, colourMask}
 use Rattle.xosera.specs.Memories.{isVramLength, isXrLength, place, word, stored}
-use Rattle.xosera.specs.Adapter.{Adapter, changed}
+use Rattle.xosera.specs.Adapter.{Adapter, withTimer, withLatches, changed}
 use Rattle.xosera.specs.XrSpace.{within, isBlitRegister, playfieldRead, registerRead, xrRead, put, videoWrite, blitWrite, xrMemoryWrite, xrWrite}
 use Rattle.xosera.specs.HostBytes.{wordOf, latched, xrLoaded, vramLoad, writeWord, writeByte, shown, highByte, lowByte, timerSaved, readByte}
 use Rattle.xosera.specs.TimerTick as TimerTick
 use Rattle.xosera.specs.TimerTick.{expires, counted, ticked}
-use Rattle.xosera.specs.Blitter.{idle, launched, isConstant, fetched, sourced, firstMask, lastWord, lastMask, testMask, writeMask, drawing, drawn, lastStep, nextSource, nextDest, nextKept, next, succeeding, stepped, steps, blitWords, engineLeft, wordsLeft}
+use Rattle.xosera.specs.Blitter.{noRegs, idle, launched, isConstant, fetched, sourced, firstMask, lastWord, lastMask, testMask, writeMask, drawing}
+use Rattle.xosera.specs.Blitter.{drawn, lastStep, nextSource, nextDest, nextKept, next, succeeding, stepped, steps, blitWords, engineLeft, wordsLeft}
 use Rattle.xosera.specs.Events.{Event, write, read, tick, frameEnd, line, call, step, run}
-use Rattle.xosera.specs.Refusals.{resetState, timerInRange, hostInRange, runningInRange, isNoRegs, idleInRange, engineInRange, inRange, badVram, badXr, badState, badRegister, blitterFull, reconfigures, applying, lowest, refusal}
+use Rattle.xosera.specs.Refusals.{resetState, timerInRange, areBytes, hostInRange, runningInRange, isNoRegs, idleInRange, engineInRange, inRange}
+use Rattle.xosera.specs.Refusals.{badVram, badXr, badState, badRegister, blitterFull, reconfigures, tests, first, refusal}
 use Rattle.xosera.specs.Calls.{actOf, vramLoaded, startedEngine, perform, done, after, lineUp, given, answer}
 use Rattle.xosera.specs.Sequences.{afterAll}
 use Rattle.xosera.specs.BenchTable.{Row, setWord, setXr, readWord, blit, bench, seen, told, refused, blitted}
@@ -25,9 +27,24 @@ abbrev lent : ℕ → ℕ → ℕ → Adapter
 lent vram xr status = record {
   side = record { host = resetState .host; video = resetState .video; blit = resetState .blit; xr = replicate xr 0 };
   status = status;
-  queued = false;
+  queued = 0;
   engine = idle;
   vram = replicate vram 0xFFFF;
+}
+
+-- An adapter with a latch, a saved timer byte and the two flags of any size; the engine's other fields are 0.
+abbrev flagged : ℕ → ℕ → ℕ → ℕ → Adapter
+flagged latch saved queued running = record {
+  side = record {
+    host = withTimer (withLatches (resetState .host) (replicate 16 latch)) (record { count = 0; countdown = 0; interval = 0; saved = saved });
+    video = resetState .video;
+    blit = noRegs;
+    xr = replicate 6656 0;
+  };
+  status = 0;
+  queued = queued;
+  engine = record { running = running; line = 0; word = 0; kept = 0; regs = noRegs };
+  vram = replicate 256 0xFFFF;
 }
 
 -- n words written to XM_XDATA, one more each time, and the low bytes of n words read there from an address on.
@@ -54,16 +71,22 @@ abbrev pub examples : List Row
 examples =
     -- The shifter starts every line empty; MOD_S and MOD_D are added after a line.
     record {
-      gives = blitted (0x1234 ∷ 0x5678 ∷ 0x9ABC ∷ []) 4 (record { ctrl = 0; andc = 0; xor = 0; mods = 1; srcs = 0x10; modd = 2; dstd = 0; shift = 0xFF01; lines = 1; words = 0 });
+      gives =
+          blitted (0x1234 ∷ 0x5678 ∷ 0x9ABC ∷ []) 4
+          (record { ctrl = 0; andc = 0; xor = 0; mods = 1; srcs = 0x10; modd = 2; dstd = 0; shift = 0xFF01; lines = 1; words = 0 });
       should = 0x0123 ∷ 0xFFFF ∷ 0xFFFF ∷ 0x09AB ∷ [];
     }
     -- The colour test is on S, not on the result, and not on the word before it is shifted.
     ∷ record {
-      gives = blitted [] 1 (record { ctrl = 0x0A11; andc = 0; xor = 0x1111; mods = 0; srcs = 0x0B0A; modd = 0; dstd = 0; shift = 0xFF00; lines = 0; words = 0 });
+      gives =
+          blitted [] 1
+          (record { ctrl = 0x0A11; andc = 0; xor = 0x1111; mods = 0; srcs = 0x0B0A; modd = 0; dstd = 0; shift = 0xFF00; lines = 0; words = 0 });
       should = 0xFAFF ∷ [];
     }
     ∷ record {
-      gives = blitted (0x1234 ∷ 0x5678 ∷ []) 2 (record { ctrl = 0x0210; andc = 0; xor = 0; mods = 0; srcs = 0x10; modd = 0; dstd = 0; shift = 0xFF01; lines = 0; words = 1 });
+      gives =
+          blitted (0x1234 ∷ 0x5678 ∷ []) 2
+          (record { ctrl = 0x0210; andc = 0; xor = 0; mods = 0; srcs = 0x10; modd = 0; dstd = 0; shift = 0xFF01; lines = 0; words = 1 });
       should = 0xF123 ∷ 0x4567 ∷ [];
     }
     -- A constant is not shifted.
@@ -74,7 +97,8 @@ examples =
     -- ANDC and XOR written after a blit's first word do not reach it.
     ∷ record {
       gives =
-          seen 0 2 (afterAll (bench []) (blit (record { ctrl = 1; andc = 0; xor = 0; mods = 0; srcs = 0x1234; modd = 0; dstd = 0; shift = 0xFF00; lines = 0; words = 1 })
+          seen 0 2 (afterAll (bench [])
+          (blit (record { ctrl = 1; andc = 0; xor = 0; mods = 0; srcs = 0x1234; modd = 0; dstd = 0; shift = 0xFF00; lines = 0; words = 1 })
           ++ run 1 ∷ setXr 0x41 0x00FF ++ setWord 5 0x1111 ++ run 9 ∷ []));
       should = 0x1234 ∷ 0x1234 ∷ [];
     }
@@ -127,7 +151,8 @@ examples =
     ∷ record {
       gives =
           refused (bench []) (setWord 1 0x8F00 ++ setWord 1 0x4000)
-          ++ told (afterAll (bench []) (setWord 1 0x8F00)) (call (read 1 false) ∷ []) ++ told (afterAll (bench []) (setWord 1 0x4000)) (call (read 1 false) ∷ []);
+          ++ told (afterAll (bench []) (setWord 1 0x8F00)) (call (read 1 false) ∷ [])
+          ++ told (afterAll (bench []) (setWord 1 0x4000)) (call (read 1 false) ∷ []);
       should = 0 ∷ 6 ∷ 0 ∷ 0 ∷ 0x00 ∷ 0x40 ∷ [];
     }
     -- A frame end sets bit 4; the line is up when the mask has it too, and down again when it is cleared.
@@ -142,7 +167,9 @@ examples =
     }
     -- Data reads go by RD_INCR; an address is taken modulo the length where memory is touched, not where it is stored.
     ∷ record {
-      gives = told (afterAll (bench (0x1234 ∷ 0x5678 ∷ 0x9ABC ∷ [])) (setWord 6 2 ++ setWord 8 1 ++ setWord 7 0x0110)) (readWord 10 ++ readWord 11 ++ readWord 7);
+      gives =
+          told (afterAll (bench (0x1234 ∷ 0x5678 ∷ 0x9ABC ∷ [])) (setWord 6 2 ++ setWord 8 1 ++ setWord 7 0x0110))
+          (readWord 10 ++ readWord 11 ++ readWord 7);
       should = 0x12 ∷ 0x34 ∷ 0x9A ∷ 0xBC ∷ 0x01 ∷ 0x14 ∷ [];
     }
     -- Nibble mask 0 stores nothing and still moves the write address.
@@ -155,10 +182,31 @@ examples =
       gives = told (afterAll (bench []) (setWord 3 5 ++ setWord 12 0x1234 ++ setWord 15 0x1234)) (readWord 0 ++ readWord 5 ++ readWord 12 ++ readWord 15);
       should = 0x00 ∷ 0x0F ∷ 0x02 ∷ 0x80 ∷ 0 ∷ 0 ∷ 0 ∷ 0 ∷ [];
     }
+    -- Latches and the saved timer byte are bytes; a flag is 1 or 0, and a blit is queued only while one runs.
+    ∷ record {
+      gives =
+          refused (flagged 255 255 0 0) (call tick ∷ []) ++ refused (flagged 256 0 0 0) (call tick ∷ []) ++ refused (flagged 0 256 0 0) (call tick ∷ [])
+          ++ refused (flagged 0 0 1 1) (call tick ∷ []) ++ refused (flagged 0 0 1 0) (call tick ∷ [])
+          ++ refused (flagged 0 0 2 1) (call tick ∷ []) ++ refused (flagged 0 0 0 2) (call tick ∷ []) ++ refused (flagged 0 0 2 2) (call tick ∷ []);
+      should = 0 ∷ 3 ∷ 3 ∷ 0 ∷ 3 ∷ 3 ∷ 3 ∷ 3 ∷ [];
+    }
+    -- Timer tick, frame end and line question take only the state.
+    ∷ record {
+      gives = refused (lent 128 6655 127) (call tick ∷ call frameEnd ∷ call line ∷ []);
+      should = 0 ∷ 0 ∷ 0 ∷ [];
+    }
     ∷ []
 
 computed : T (allSame examples)
-unfolding wrap bit nibble chosen merged shifted combined isColour colourMask isVramLength isXrLength place word stored changed within isBlitRegister playfieldRead registerRead xrRead put videoWrite blitWrite xrMemoryWrite xrWrite wordOf latched xrLoaded vramLoad writeWord writeByte shown highByte lowByte timerSaved readByte expires counted ticked TimerTick.tick TimerTick.frameEnd launched isConstant fetched sourced firstMask lastWord lastMask testMask writeMask drawing drawn lastStep nextSource nextDest nextKept next succeeding stepped steps blitWords engineLeft wordsLeft timerInRange hostInRange runningInRange isNoRegs idleInRange engineInRange inRange badVram badXr badState badRegister blitterFull reconfigures applying lowest refusal actOf vramLoaded startedEngine perform done after lineUp given answer afterAll
+unfolding wrap bit nibble chosen merged shifted combined isColour colourMask isVramLength isXrLength place word stored changed
+    within isBlitRegister playfieldRead registerRead xrRead put videoWrite blitWrite xrMemoryWrite xrWrite
+    wordOf latched xrLoaded vramLoad writeWord writeByte shown highByte lowByte timerSaved readByte
+    expires counted ticked TimerTick.tick TimerTick.frameEnd
+    launched isConstant fetched sourced firstMask lastWord lastMask testMask writeMask drawing drawn lastStep
+    nextSource nextDest nextKept next succeeding stepped steps blitWords engineLeft wordsLeft
+    timerInRange areBytes hostInRange runningInRange isNoRegs idleInRange engineInRange inRange
+    badVram badXr badState badRegister blitterFull reconfigures tests first refusal
+    actOf vramLoaded startedEngine perform done after lineUp given answer afterAll
 computed = tt
 
 -- Every example gives what it should.

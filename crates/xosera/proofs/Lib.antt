@@ -4,6 +4,7 @@ pub mod Examples
 pub mod Branches
 pub mod MaskLaws
 pub mod EngineLaws
+pub mod WordLaws
 pub mod StepCases
 pub mod RangeLaws
 pub mod RefusalLaws

@@ -38,7 +38,8 @@ unfolding merged
 merged-lt m old new = omega (arith, chosen-le m old new 3, chosen-le m old new 2, chosen-le m old new 1, chosen-le m old new 0)
 
 -- What holds of VRAM as it is, and with one word merged, holds of it after a store.
-pub stored-either : (P : List ℕ → Type 0) (s : Store) (v : List ℕ) → P v → P (set v (place v (s .addr)) (merged (s .mask) (word v (s .addr)) (s .value))) → P (stored s v)
+pub stored-either : (P : List ℕ → Type 0) (s : Store) (v : List ℕ) →
+    P v → P (set v (place v (s .addr)) (merged (s .mask) (word v (s .addr)) (s .value))) → P (stored s v)
 unfolding stored
 stored-either P s v p q = cond-either P (eqb (s .mask) 0) v _ p q
 
@@ -46,7 +47,8 @@ pub stored-none : (s : Store) (v : List ℕ) → s .mask ≡ 0 → stored s v �
 unfolding stored
 stored-none s v h = cond-yes _ _ (eq-eqb (s .mask) 0 h)
 
-pub stored-there : (s : Store) (v : List ℕ) → s .mask ≢ 0 → 0 < length v → getD (stored s v) (place v (s .addr)) 0 ≡ merged (s .mask) (word v (s .addr)) (s .value)
+pub stored-there : (s : Store) (v : List ℕ) → s .mask ≢ 0 → 0 < length v →
+    getD (stored s v) (place v (s .addr)) 0 ≡ merged (s .mask) (word v (s .addr)) (s .value)
 unfolding stored place
 stored-there s v m h = rw (cond-no _ _ (ne-eqb (s .mask) 0 m)) (getD-set-same v (s .addr % length v) _ 0 (mod-lt (s .addr) h))
 

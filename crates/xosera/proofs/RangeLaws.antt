@@ -1,33 +1,35 @@
 -- Every event keeps the state in its ranges and both memories at their lengths.
 use mathlib.Core.Path.{_≡_, refl, sym, _∙_, ap}
 use mathlib.Core.Bool.{Bool, true, false, cond, _&&_, _||_, false≢true}
-use Prim.Native.Nat.{ℕ, zero, suc, _-_, _≤_, _<_}
+use mathlib.Core.List.{List, [], _∷_}
+use Prim.Native.Nat.{ℕ, zero, suc, _-_, _%_, _≤_, _<_}
 use native.Mathlib.Omega.{arith}
 use lib.Bits.{bitOr, or-lt, and-le-l}
 use lib.Dec.{eqb, leb}
-use lib.ListN.{length, length-set}
+use lib.ListN.{length, set, length-set}
 use borrow.Author.Tests.{eqb-true, eqb-false, leb-true, eq-eqb, le-leb, ne-eqb}
-use Rattle.xosera.specs.declared.Timer.{Timer}
+use Rattle.xosera.specs.State.{Timer, Host, isSet}
 use Rattle.xosera.specs.declared.BlitRegs.{BlitRegs}
 use Rattle.xosera.specs.declared.Engine.{Engine}
 use Rattle.xosera.specs.Adapter.{Side, Adapter, Act, StatusChange, kept, raised, cleared, changed, stateOf, withTimer}
 use Rattle.xosera.specs.XrSpace.{within, xrMemoryWrite, xrWrite}
-use Rattle.xosera.specs.HostBytes.{latched, xrLoaded, vramLoad, writeWord, writeByte, timerSaved, readByte, writeSysCtrl, writeIntCtrl, writeTimer, writeNothing, writes}
+use Rattle.xosera.specs.HostBytes.{latched, xrLoaded, vramLoad, writeWord, writeByte, timerSaved, readByte}
+use Rattle.xosera.specs.HostBytes.{writeSysCtrl, writeIntCtrl, writeTimer, writeNothing, writes}
 use Rattle.xosera.specs.TimerTick as TimerTick
 use Rattle.xosera.specs.TimerTick.{expires, counted, ticked}
 use Rattle.xosera.specs.Blitter.{idle, launched, next, succeeding, stepped, steps}
 use Rattle.xosera.specs.Events.{Call, Event, write, read, tick, frameEnd, line, call, step, run}
-use Rattle.xosera.specs.Refusals.{timerInRange, hostInRange, idleInRange, isNoRegs, engineInRange, inRange, refusal}
+use Rattle.xosera.specs.Refusals.{timerInRange, areBytes, hostInRange, idleInRange, isNoRegs, engineInRange, inRange, refusal}
 use Rattle.xosera.specs.Calls.{actOf, vramLoaded, startedEngine, perform, done, after}
-use Rattle.xosera.proofs.Branches.{cond-either, Every, none, _also_, getD-every, cond-same, length-cond, parts}
+use Rattle.xosera.proofs.Branches.{cond-either, cond-cases, Every, none, _also_, getD-every, cond-same, length-cond, parts}
 use Rattle.xosera.proofs.StepCases.{step-cases}
-use Rattle.xosera.proofs.EngineLaws.{launched-in-range, next-in-range, stored-length, drawn-length}
+use Rattle.xosera.proofs.EngineLaws.{idle-flag, launched-in-range, next-in-range, stored-length, drawn-length}
 
 -- What the ranges say of an adapter.
 pub record Ranged (a : Adapter) : Type 0 where
   pub host : hostInRange (a .side .host) ≡ true
   pub status : a .status ≤ 127
-  pub queue : a .queued ≡ true → a .engine .running ≡ true
+  pub queue : a .queued ≤ a .engine .running
   pub engine : engineInRange (a .engine) ≡ true
 
 pub range-facts : (a : Adapter) → inRange (stateOf a) ≡ true → Ranged a
@@ -57,13 +59,13 @@ stepped-ranged a f =
     (λ r l. record {
       host = f .host;
       status = status-raised 64 (a .status) (omega arith) (f .status);
-      queue = λ q. absurd (false≢true q);
-      engine = succeeding-in-range (a .queued) (a .side .blit);
+      queue = omega arith;
+      engine = succeeding-in-range (isSet (a .queued)) (a .side .blit);
     })
     (λ r l. record {
       host = f .host;
       status = f .status;
-      queue = λ _. refl;
+      queue = omega (arith, f .queue, eqb-true (a .engine .running) 1 r);
       engine = next-in-range (a .engine) (a .vram) r (f .engine) l;
     })
 
@@ -139,6 +141,35 @@ ticked-counts t f = go (eqb (t .countdown) 1) refl
         let more = eqb-false (t .countdown) 1 e in
         rw e (record { within = omega arith; stopped = λ z. f .stopped (omega arith) })
 
+ticked-saved : (t : Timer) → t .saved ≤ 255 → ticked t .saved ≤ 255
+unfolding ticked
+ticked-saved t h = h
+
+-- A host in range, by its fields.
+pub record HostRanged (h : Host) : Type 0 where
+  pub nibbles : h .vram .nibbles ≤ 15
+  pub intmask : h .intmask ≤ 127
+  pub timer : timerInRange (h .timer) ≡ true
+  pub saved : h .timer .saved ≤ 255
+  pub latches : areBytes (h .latches) ≡ true
+
+pub host-facts : (h : Host) → hostInRange h ≡ true → HostRanged h
+unfolding hostInRange
+host-facts h k =
+    let f = simp parts at k in
+    record { nibbles = f .0 .0 .0 .0; intmask = f .0 .0 .0 .1; timer = f .0 .0 .1; saved = f .0 .1; latches = f .1 }
+
+pub host-of : (h : Host) → HostRanged h → hostInRange h ≡ true
+unfolding hostInRange
+host-of h f = simp parts ((((f .nibbles, f .intmask), f .timer), f .saved), f .latches)
+
+-- A byte put among bytes.
+set-bytes : (l : List ℕ) (i v : ℕ) → v ≤ 255 → areBytes l ≡ true → areBytes (set l i v) ≡ true
+unfolding areBytes
+set-bytes [] i v b h = h
+set-bytes (x ∷ xs) zero v b h = let k = simp parts at h in simp parts (b, k .1)
+set-bytes (x ∷ xs) (suc i) v b h = let k = simp parts at h in simp parts (k .0, set-bytes xs i v b (k .1))
+
 -- What an access asks for, from a side: a host in range again, status bits below 128, XR memory as long as it was.
 abbrev pub Bounded : StatusChange → Type 0
 Bounded kept = Unit {0}
@@ -155,24 +186,58 @@ module _ (s : Side) where
   fits : (p : Act) → hostInRange (p .side .host) ≡ hostInRange (s .host) → p .status ≡ kept → p .side .xr ≡ s .xr → Fits s p
   fits p h c x = record { host = λ k. h ∙ k; status = rw c tt; xr = ap length x }
 
-  timer-fits : (p : Act) → (t : Timer) → (Counts (s .host .timer) → Counts t) → p .side .host ≡ withTimer (s .host) t → Bounded (p .status) → p .side .xr ≡ s .xr → Fits s p
-  unfolding hostInRange
-  timer-fits p t f h b x = record {
-    host = λ k. let k′ = simp parts at k in rw h (simp parts ((k′ .0 .0, k′ .0 .1), timer-of t (f (timer-facts (s .host .timer) (k′ .1)))));
+  timer-fits : (p : Act) → (t : Timer) → (Counts (s .host .timer) → Counts t) → (s .host .timer .saved ≤ 255 → t .saved ≤ 255)
+      → p .side .host ≡ withTimer (s .host) t → Bounded (p .status) → p .side .xr ≡ s .xr → Fits s p
+  timer-fits p t f g h b x = record {
+    host = λ k.
+        let r = host-facts (s .host) k in
+        rw h (host-of (withTimer (s .host) t) (record {
+          nibbles = r .nibbles;
+          intmask = r .intmask;
+          timer = timer-of t (f (timer-facts (s .host .timer) (r .timer)));
+          saved = g (r .saved);
+          latches = r .latches;
+        }));
     status = b;
     xr = ap length x;
   }
 
   sys-ctrl-fits : (w : ℕ) → Fits s (writeSysCtrl s w)
-  unfolding hostInRange
-  sys-ctrl-fits w = record { host = λ k. let k′ = simp parts at k in simp parts ((omega arith, k′ .0 .1), k′ .1); status = tt; xr = refl }
+  sys-ctrl-fits w = record {
+    host = λ k.
+        let r = host-facts (s .host) k in
+        host-of _ (record { nibbles = omega arith; intmask = r .intmask; timer = r .timer; saved = r .saved; latches = r .latches });
+    status = tt;
+    xr = refl;
+  }
 
   int-ctrl-fits : (w : ℕ) → Fits s (writeIntCtrl s w)
-  unfolding hostInRange
-  int-ctrl-fits w = record { host = λ k. let k′ = simp parts at k in simp parts ((k′ .0 .0, omega arith), k′ .1); status = tt; xr = refl }
+  int-ctrl-fits w = record {
+    host = λ k.
+        let r = host-facts (s .host) k in
+        host-of _ (record { nibbles = r .nibbles; intmask = omega arith; timer = r .timer; saved = r .saved; latches = r .latches });
+    status = tt;
+    xr = refl;
+  }
+
+  latch-fits : (r b : ℕ) → Fits s (writeByte s r false b)
+  unfolding writeByte latched
+  latch-fits r b = record {
+    host = λ k.
+        let f = host-facts (s .host) k in
+        host-of _ (record {
+          nibbles = f .nibbles;
+          intmask = f .intmask;
+          timer = f .timer;
+          saved = f .saved;
+          latches = set-bytes (s .host .latches) r (b % 256) (omega arith) (f .latches);
+        });
+    status = tt;
+    xr = refl;
+  }
 
   timer-write-fits : (w : ℕ) → Fits s (writeTimer s w)
-  timer-write-fits w = timer-fits (writeTimer s w) _ (λ _. record { within = omega arith; stopped = λ z. z }) refl tt refl
+  timer-write-fits w = timer-fits (writeTimer s w) _ (λ _. record { within = omega arith; stopped = λ z. z }) (λ k. k) refl tt refl
 
   xr-write-fits : (t : Side) (a w : ℕ) → hostInRange (t .host) ≡ hostInRange (s .host) → t .xr ≡ s .xr → Fits s (xrWrite t a w)
   unfolding xrWrite xrMemoryWrite
@@ -193,13 +258,16 @@ module _ (s : Side) where
           also fits _ refl refl refl also fits _ refl refl refl also fits _ refl refl refl also none
 
   write-byte-fits : (r : ℕ) (odd : Bool) (b : ℕ) → Fits s (writeByte s r odd b)
-  unfolding writeByte hostInRange latched
-  write-byte-fits r false b = fits _ refl refl refl
+  unfolding writeByte
+  write-byte-fits r false b = latch-fits r b
   write-byte-fits r true b = write-fits r _
 
   read-byte-fits : (r : ℕ) (odd : Bool) → Fits s (readByte s r odd)
-  unfolding readByte hostInRange timerInRange timerSaved vramLoad xrLoaded
-  read-byte-fits r false = cond-either (Fits s) (eqb r 2) _ _ (fits _ refl refl refl) (fits _ refl refl refl)
+  unfolding readByte hostInRange timerSaved vramLoad xrLoaded
+  read-byte-fits r false =
+      cond-either (Fits s) (eqb r 2) _ _
+      (timer-fits _ (timerSaved (s .host .timer)) (λ f. record { within = f .within; stopped = f .stopped }) (λ _. omega arith) refl tt refl)
+      (fits _ refl refl refl)
   read-byte-fits r true =
       cond-either (Fits s) (eqb r 5) _ _ (fits _ refl refl refl)
       (cond-either (Fits s) (eqb r 10 || eqb r 11) _ _ (fits _ refl refl refl) (fits _ refl refl refl))
@@ -209,7 +277,8 @@ module _ (s : Side) where
   act-fits (write r odd b) = write-byte-fits r odd b
   act-fits (read r odd) = read-byte-fits r odd
   act-fits tick =
-      timer-fits _ _ (ticked-counts (s .host .timer)) refl (cond-either Bounded (expires (s .host .timer)) (raised 32) kept (omega arith) tt) refl
+      timer-fits _ _ (ticked-counts (s .host .timer)) (ticked-saved (s .host .timer)) refl
+      (cond-either Bounded (expires (s .host .timer)) (raised 32) kept (omega arith) tt) refl
   act-fits frameEnd = record { host = λ k. k; status = omega arith; xr = refl }
   act-fits line = fits _ refl refl refl
 
@@ -220,11 +289,13 @@ changed-in-range kept n b h = h
 changed-in-range (raised bits) n b h = status-raised bits n b h
 changed-in-range (cleared bits) n b h = omega (arith, and-le-l n (127 - bits))
 
-started-queue : (b : Bool) (e : Engine) (q : Bool) (r : BlitRegs) → (q ≡ true → e .running ≡ true)
-    → cond b (e .running) q ≡ true → cond b (startedEngine e r) e .running ≡ true
+started-queue : (b : Bool) (e : Engine) (q : ℕ) (r : BlitRegs) → engineInRange e ≡ true → q ≤ e .running
+    → cond b (e .running) q ≤ cond b (startedEngine e r) e .running
 unfolding startedEngine launched
-started-queue true e q r h k = cond-either (λ (x : Engine). x .running ≡ true) (e .running) e (launched r) k refl
-started-queue false e q r h k = h k
+started-queue true e q r f h =
+    cond-cases (λ (x : Engine). e .running ≤ x .running) (isSet (e .running)) e (launched r) (λ _. omega arith)
+    (λ n. let z = idle-flag e n f in omega arith)
+started-queue false e q r f h = h
 
 module _ (p : Act) (a : Adapter) (f : Fits (a .side) p) where
   pub performed-ranged : Ranged a → Ranged (perform p a)
@@ -232,10 +303,10 @@ module _ (p : Act) (a : Adapter) (f : Fits (a .side) p) where
   performed-ranged k = record {
     host = cond-either (λ (s : Side). hostInRange (s .host) ≡ true) (p .load) _ _ (f .host (k .host)) (f .host (k .host));
     status = changed-in-range (p .status) (a .status) (f .status) (k .status);
-    queue = started-queue (p .start) (a .engine) (a .queued) (p .side .blit) (k .queue);
+    queue = started-queue (p .start) (a .engine) (a .queued) (p .side .blit) (k .engine) (k .queue);
     engine =
         cond-either (λ (e : Engine). engineInRange e ≡ true) (p .start) _ _
-        (cond-either (λ (e : Engine). engineInRange e ≡ true) (a .engine .running) _ _ (k .engine) (launched-in-range (p .side .blit))) (k .engine);
+        (cond-either (λ (e : Engine). engineInRange e ≡ true) (isSet (a .engine .running)) _ _ (k .engine) (launched-in-range (p .side .blit))) (k .engine);
   }
 
   performed-xr-length : length (perform p a .side .xr) ≡ length (a .side .xr)

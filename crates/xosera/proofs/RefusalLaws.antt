@@ -1,38 +1,62 @@
--- None of the refusals applies to an event that is not refused: its state is in range.
+-- None of the tests applies to an event that is not refused: its state is in range.
 use mathlib.Core.Path.{_≡_, refl, sym, _∙_}
-use mathlib.Core.Bool.{Bool, true, false}
+use mathlib.Core.Bool.{Bool, true, false, _&&_}
 use mathlib.Core.List.{List, [], _∷_}
-use Prim.Native.Nat.{ℕ, zero, suc}
+use Prim.Native.Nat.{ℕ, zero, suc, _<_}
 use native.Mathlib.Omega.{arith}
+use lib.Dec.{ltb}
 use lib.ListN.{getD}
 use borrow.Author.Tests.{not-false}
 use Rattle.xosera.specs.Adapter.{Adapter, stateOf}
 use Rattle.xosera.specs.Events.{Event, write, read, tick, frameEnd, line, call, step, run}
-use Rattle.xosera.specs.Refusals.{inRange, badState, applying, lowest, refusal}
+use Rattle.xosera.specs.Refusals.{inRange, badState, Test, _when_, tests, first, refusal}
+use Rattle.xosera.proofs.Branches.{parts}
 
-none-applies : (n : ℕ) (bs : List Bool) (i : ℕ) → lowest (suc n) bs ≡ 0 → getD bs i false ≡ false
-unfolding lowest
-none-applies n [] i h = refl
-none-applies n (true ∷ bs) i h = absurd (omega arith)
-none-applies n (false ∷ bs) zero h = refl
-none-applies n (false ∷ bs) (suc i) h = none-applies (suc n) bs i h
+-- No test has the number 0, which means done.
+abbrev numbered : List Test → Bool
+numbered [] = true
+numbered (t ∷ more) = ltb 0 (t .number) && numbered more
 
--- Refusal i + 1 does not apply.
-pub accepted-none : (a : Adapter) (e : Event) (i : ℕ) → refusal a e ≡ 0 → getD (applying a e) i false ≡ false
+tests-numbered : (a : Adapter) (e : Event) → numbered (tests a e) ≡ true
+unfolding tests
+tests-numbered a (call (write r odd b)) = refl
+tests-numbered a (call (read r odd)) = refl
+tests-numbered a (call tick) = refl
+tests-numbered a (call frameEnd) = refl
+tests-numbered a (call line) = refl
+tests-numbered a step = refl
+tests-numbered a (run n) = refl
+
+-- Whether the test at a place of a list applies.
+abbrev pub applied : List Test → ℕ → Bool
+applied ts i = getD ts i (0 when false) .applies
+
+-- Where none is given the first test does not apply, and none of the rest is given.
+passed : (t : Test) (more : List Test) → 0 < t .number → first (t ∷ more) ≡ 0 → (t .applies ≡ false) × (first more ≡ 0)
+unfolding first
+passed t more over h = go (t .applies) refl
+  where
+    go : (b : Bool) → t .applies ≡ b → (t .applies ≡ false) × (first more ≡ 0)
+    go true p = absurd (omega (arith, rw p at h))
+    go false p = (p, rw p at h)
+
+none-applies : (ts : List Test) (i : ℕ) → numbered ts ≡ true → first ts ≡ 0 → applied ts i ≡ false
+none-applies [] i n h = refl
+none-applies (t ∷ more) zero n h = passed t more ((simp parts at n) .0) h .0
+none-applies (t ∷ more) (suc i) n h = none-applies more i ((simp parts at n) .1) (passed t more ((simp parts at n) .0) h .1)
+
+-- The test at place i does not apply.
+pub accepted-none : (a : Adapter) (e : Event) (i : ℕ) → refusal a e ≡ 0 → applied (tests a e) i ≡ false
 unfolding refusal
-accepted-none a e i h = none-applies 0 (applying a e) i h
+accepted-none a e i h = none-applies (tests a e) i (tests-numbered a e) h
 
 -- Refusal 3 can apply to every event.
-third-is : (a : Adapter) (e : Event) → getD (applying a e) 2 false ≡ badState a
-unfolding applying
-third-is a (call (write r odd b)) = refl
-third-is a (call (read r odd)) = refl
-third-is a (call tick) = refl
-third-is a (call frameEnd) = refl
-third-is a (call line) = refl
-third-is a step = refl
-third-is a (run n) = refl
-
 pub accepted-in-range : (a : Adapter) (e : Event) → refusal a e ≡ 0 → inRange (stateOf a) ≡ true
-unfolding badState
-accepted-in-range a e h = not-false (inRange (stateOf a)) (sym (third-is a e) ∙ accepted-none a e 2 h)
+unfolding tests badState
+accepted-in-range a (call (write r odd b)) h = not-false (inRange (stateOf a)) (accepted-none a (call (write r odd b)) 2 h)
+accepted-in-range a (call (read r odd)) h = not-false (inRange (stateOf a)) (accepted-none a (call (read r odd)) 2 h)
+accepted-in-range a (call tick) h = not-false (inRange (stateOf a)) (accepted-none a (call tick) 0 h)
+accepted-in-range a (call frameEnd) h = not-false (inRange (stateOf a)) (accepted-none a (call frameEnd) 0 h)
+accepted-in-range a (call line) h = not-false (inRange (stateOf a)) (accepted-none a (call line) 0 h)
+accepted-in-range a step h = not-false (inRange (stateOf a)) (accepted-none a step 2 h)
+accepted-in-range a (run n) h = not-false (inRange (stateOf a)) (accepted-none a (run n) 2 h)

@@ -2,6 +2,7 @@
 use mathlib.Core.Path.{_≡_, refl, _∙_}
 use mathlib.Core.Bool.{Bool, true, false}
 use lib.Bits.{bitOr}
+use Rattle.xosera.specs.State.{isSet}
 use Rattle.xosera.specs.Adapter.{Adapter}
 use Rattle.xosera.specs.Blitter.{lastStep, next, drawn, succeeding, stepped}
 use Rattle.xosera.proofs.Branches.{cond-yes, cond-no}
@@ -11,8 +12,8 @@ abbrev pub finished : Adapter → Adapter
 finished a = record {
   side = a .side;
   status = bitOr (a .status) 64;
-  queued = false;
-  engine = succeeding (a .queued) (a .side .blit);
+  queued = 0;
+  engine = succeeding (isSet (a .queued)) (a .side .blit);
   vram = drawn (a .engine) (a .vram);
 }
 
@@ -26,28 +27,28 @@ gone-on a = record {
   vram = drawn (a .engine) (a .vram);
 }
 
-pub stepped-idle : (a : Adapter) → a .engine .running ≡ false → stepped a ≡ a
+pub stepped-idle : (a : Adapter) → isSet (a .engine .running) ≡ false → stepped a ≡ a
 unfolding stepped
 stepped-idle a r = cond-no _ a r
 
-pub stepped-last : (a : Adapter) → a .engine .running ≡ true → lastStep (a .engine) ≡ true → stepped a ≡ finished a
+pub stepped-last : (a : Adapter) → isSet (a .engine .running) ≡ true → lastStep (a .engine) ≡ true → stepped a ≡ finished a
 unfolding stepped
 stepped-last a r l = cond-yes _ a r ∙ rw l refl
 
-pub stepped-on : (a : Adapter) → a .engine .running ≡ true → lastStep (a .engine) ≡ false → stepped a ≡ gone-on a
+pub stepped-on : (a : Adapter) → isSet (a .engine .running) ≡ true → lastStep (a .engine) ≡ false → stepped a ≡ gone-on a
 unfolding stepped
 stepped-on a r l = cond-yes _ a r ∙ rw l refl
 
 -- What holds in each of the three cases holds of the step.
-pub step-cases : (P : Adapter → Type 0) (a : Adapter) → (a .engine .running ≡ false → P a)
-    → (a .engine .running ≡ true → lastStep (a .engine) ≡ true → P (finished a))
-    → (a .engine .running ≡ true → lastStep (a .engine) ≡ false → P (gone-on a)) → P (stepped a)
-step-cases P a idles ends goes = by-engine (a .engine .running) refl
+pub step-cases : (P : Adapter → Type 0) (a : Adapter) → (isSet (a .engine .running) ≡ false → P a)
+    → (isSet (a .engine .running) ≡ true → lastStep (a .engine) ≡ true → P (finished a))
+    → (isSet (a .engine .running) ≡ true → lastStep (a .engine) ≡ false → P (gone-on a)) → P (stepped a)
+step-cases P a idles ends goes = by-engine (isSet (a .engine .running)) refl
   where
-    by-step : (l : Bool) → lastStep (a .engine) ≡ l → a .engine .running ≡ true → P (stepped a)
+    by-step : (l : Bool) → lastStep (a .engine) ≡ l → isSet (a .engine .running) ≡ true → P (stepped a)
     by-step true l r = rw (stepped-last a r l) (ends r l)
     by-step false l r = rw (stepped-on a r l) (goes r l)
 
-    by-engine : (b : Bool) → a .engine .running ≡ b → P (stepped a)
+    by-engine : (b : Bool) → isSet (a .engine .running) ≡ b → P (stepped a)
     by-engine true r = by-step (lastStep (a .engine)) refl r
     by-engine false r = rw (stepped-idle a r) (idles r)

@@ -1,12 +1,13 @@
 -- Demand 2: a blit draws one word a step, ends on its last word and not before, and a run counts what its steps count.
 use mathlib.Core.Path.{_≡_, refl, sym, _∙_, ap}
-use mathlib.Core.Bool.{Bool, true, false, false≢true}
+use mathlib.Core.Bool.{Bool, true, false}
 use Prim.Native.Nat.{ℕ, zero, suc, _+_, _-_, _≤_, _<_, min}
 use native.Mathlib.Omega.{arith}
 use native.Mathlib.Nat.{zero-add, suc-add, mod-mod}
-use borrow.Author.Tests.{eq-eqb}
+use borrow.Author.Tests.{eq-eqb, ne-eqb}
 use Rattle.xosera.specs.declared.BlitRegs.{BlitRegs}
 use Rattle.xosera.specs.declared.Engine.{Engine}
+use Rattle.xosera.specs.State.{isSet}
 use Rattle.xosera.specs.Adapter.{Adapter, stateOf}
 use Rattle.xosera.specs.XrSpace.{xrWrite}
 use Rattle.xosera.specs.HostBytes.{writeByte, writeWord}
@@ -16,13 +17,13 @@ use Rattle.xosera.specs.Refusals.{inRange, refusal}
 use Rattle.xosera.specs.Calls.{actOf, startedEngine, perform, done, after, given}
 use Rattle.xosera.specs.Sequences.{startWith, Starts, wordsOf}
 use Rattle.xosera.proofs.Branches.{cond-yes, cond-no}
-use Rattle.xosera.proofs.EngineLaws.{launched-left, last-left, next-left, idle-left, running-left, succeeding-left}
+use Rattle.xosera.proofs.EngineLaws.{idle-flag, launched-left, last-left, next-left, idle-left, running-left, succeeding-left}
 use Rattle.xosera.proofs.StepCases.{stepped-idle, stepped-last, stepped-on}
 use Rattle.xosera.proofs.RefusalLaws.{accepted-in-range}
 use Rattle.xosera.proofs.RangeLaws.{Ranged, range-facts, stepped-ranged, steps-ranged, stepped-in-range, after-in-range}
 
 -- Steps on an idle engine.
-pub steps-idle : (n : ℕ) (a : Adapter) → a .engine .running ≡ false → steps n a ≡ a
+pub steps-idle : (n : ℕ) (a : Adapter) → isSet (a .engine .running) ≡ false → steps n a ≡ a
 unfolding steps
 steps-idle zero a r = refl
 steps-idle (suc n) a r = rw (stepped-idle a r) (steps-idle n a r)
@@ -34,36 +35,32 @@ steps-add (suc m) n a = rw suc-add (steps-add m n (stepped a))
 
 -- Words left: none when idle, some while running, and one less after each step.
 module _ (a : Adapter) (f : Ranged a) where
-  not-queued : a .engine .running ≡ false → a .queued ≡ false
-  not-queued r = go (a .queued) refl
-    where
-      go : (q : Bool) → a .queued ≡ q → a .queued ≡ false
-      go true q = absurd (false≢true (sym r ∙ f .queue q))
-      go false q = q
+  not-queued : isSet (a .engine .running) ≡ false → a .queued ≡ 0
+  not-queued r = let z = idle-flag (a .engine) r (f .engine) in omega (arith, f .queue)
 
-  none-left : a .engine .running ≡ false → wordsLeft a ≡ 0
+  none-left : isSet (a .engine .running) ≡ false → wordsLeft a ≡ 0
   unfolding wordsLeft
   none-left r = rw (idle-left (a .engine) r, not-queued r)
 
-  some-left : a .engine .running ≡ true → 0 < wordsLeft a
+  some-left : isSet (a .engine .running) ≡ true → 0 < wordsLeft a
   unfolding wordsLeft
   some-left r = omega (arith, running-left (a .engine) r (f .engine))
 
-  running-while-left : 0 < wordsLeft a → a .engine .running ≡ true
-  running-while-left l = go (a .engine .running) refl
+  running-while-left : 0 < wordsLeft a → isSet (a .engine .running) ≡ true
+  running-while-left l = go (isSet (a .engine .running)) refl
     where
-      go : (b : Bool) → a .engine .running ≡ b → a .engine .running ≡ true
+      go : (b : Bool) → isSet (a .engine .running) ≡ b → isSet (a .engine .running) ≡ true
       go true r = r
       go false r = absurd (omega (arith, none-left r))
 
-  idle-once-none-left : wordsLeft a ≡ 0 → a .engine .running ≡ false
-  idle-once-none-left l = go (a .engine .running) refl
+  idle-once-none-left : wordsLeft a ≡ 0 → isSet (a .engine .running) ≡ false
+  idle-once-none-left l = go (isSet (a .engine .running)) refl
     where
-      go : (b : Bool) → a .engine .running ≡ b → a .engine .running ≡ false
+      go : (b : Bool) → isSet (a .engine .running) ≡ b → isSet (a .engine .running) ≡ false
       go true r = absurd (omega (arith, some-left r))
       go false r = r
 
-  one-less : a .engine .running ≡ true → wordsLeft a ≡ suc (wordsLeft (stepped a))
+  one-less : isSet (a .engine .running) ≡ true → wordsLeft a ≡ suc (wordsLeft (stepped a))
   unfolding wordsLeft
   one-less r = go (lastStep (a .engine)) refl
     where
@@ -72,9 +69,9 @@ module _ (a : Adapter) (f : Ranged a) where
       go false l = rw (stepped-on a r l, next-left (a .engine) (a .vram) r (f .engine) l) (omega arith)
 
   stepped-less : wordsLeft (stepped a) ≡ wordsLeft a - 1
-  stepped-less = go (a .engine .running) refl
+  stepped-less = go (isSet (a .engine .running)) refl
     where
-      go : (b : Bool) → a .engine .running ≡ b → wordsLeft (stepped a) ≡ wordsLeft a - 1
+      go : (b : Bool) → isSet (a .engine .running) ≡ b → wordsLeft (stepped a) ≡ wordsLeft a - 1
       go true r = omega (arith, one-less r)
       go false r = rw (stepped-idle a r) (omega (arith, none-left r))
 
@@ -84,13 +81,13 @@ steps-less zero a f = omega arith
 steps-less (suc n) a f = steps-less n (stepped a) (stepped-ranged a f) ∙ rw (stepped-less a f) (omega arith)
 
 module _ (a : Adapter) (h : inRange (stateOf a) ≡ true) where
-  pub idle-none-left : a .engine .running ≡ false → wordsLeft a ≡ 0
+  pub idle-none-left : isSet (a .engine .running) ≡ false → wordsLeft a ≡ 0
   idle-none-left r = none-left a (range-facts a h) r
 
-  pub running-some-left : a .engine .running ≡ true → 0 < wordsLeft a
+  pub running-some-left : isSet (a .engine .running) ≡ true → 0 < wordsLeft a
   running-some-left r = some-left a (range-facts a h) r
 
-  pub stepped-left : a .engine .running ≡ true → wordsLeft a ≡ suc (wordsLeft (stepped a))
+  pub stepped-left : isSet (a .engine .running) ≡ true → wordsLeft a ≡ suc (wordsLeft (stepped a))
   stepped-left r = one-less a (range-facts a h) r
 
 pub steps-left : (n : ℕ) (a : Adapter) → inRange (stateOf a) ≡ true → wordsLeft (steps n a) ≡ wordsLeft a - n
@@ -98,10 +95,10 @@ steps-left n a h = steps-less n a (range-facts a h)
 
 -- The engine runs as long as words are left, and then no more.
 module _ (n : ℕ) (a : Adapter) (h : inRange (stateOf a) ≡ true) where
-  pub over-after : wordsLeft a ≤ n → steps n a .engine .running ≡ false
+  pub over-after : wordsLeft a ≤ n → isSet (steps n a .engine .running) ≡ false
   over-after l = idle-once-none-left (steps n a) (steps-ranged n a (range-facts a h)) (omega (arith, steps-left n a h))
 
-  pub not-before : n < wordsLeft a → steps n a .engine .running ≡ true
+  pub not-before : n < wordsLeft a → isSet (steps n a .engine .running) ≡ true
   not-before l = running-while-left (steps n a) (steps-ranged n a (range-facts a h)) (omega (arith, steps-left n a h))
 
 -- What n single steps count.
@@ -127,9 +124,9 @@ module _ (a : Adapter) (b : ℕ) (h : Starts a b) where
 
   pub started-engine : after a (startWith b) .engine ≡ launched (after a (startWith b) .side .blit)
   unfolding perform startedEngine actOf writeByte writeWord xrWrite
-  started-engine = rw started (cond-yes _ _ at-words ∙ cond-no _ _ (h .idle))
+  started-engine = rw started (cond-yes _ _ at-words ∙ cond-no _ _ (ne-eqb (a .engine .running) 1 (λ z. absurd (omega (arith, h .idle)))))
 
-  pub started-queue-free : after a (startWith b) .queued ≡ false
+  pub started-queue-free : after a (startWith b) .queued ≡ 0
   unfolding perform
   started-queue-free = rw started (cond-yes _ _ at-words ∙ h .idle)
 
@@ -142,13 +139,13 @@ launched-words r = rw mod-mod
 
 -- A started blit: it runs alone, has all its W times L words left, and ends on the last of them and not before.
 pub record EndsOnLastStep (s : Adapter) : Type 0 where
-  pub starts : s .engine .running ≡ true
-  pub alone : s .queued ≡ false
+  pub starts : isSet (s .engine .running) ≡ true
+  pub alone : s .queued ≡ 0
   pub left : wordsLeft s ≡ wordsOf s
-  pub runs : (n : ℕ) → n < wordsOf s → steps n s .engine .running ≡ true
-  pub over : (n : ℕ) → wordsOf s ≤ n → steps n s .engine .running ≡ false
+  pub runs : (n : ℕ) → n < wordsOf s → isSet (steps n s .engine .running) ≡ true
+  pub over : (n : ℕ) → wordsOf s ≤ n → isSet (steps n s .engine .running) ≡ false
 
-launched-left-all : (s : Adapter) (r : BlitRegs) → s .engine ≡ launched r → s .queued ≡ false → wordsLeft s ≡ wordsOf s
+launched-left-all : (s : Adapter) (r : BlitRegs) → s .engine ≡ launched r → s .queued ≡ 0 → wordsLeft s ≡ wordsOf s
 unfolding wordsLeft wordsOf
 launched-left-all s r e q = rw (e, q, launched-words r, launched-left r) (omega arith)
 
@@ -159,7 +156,7 @@ blit-ends-on-its-last-step a b h =
     let e : s .engine ≡ launched (s .side .blit) = started-engine a b h in
     let l : wordsLeft s ≡ wordsOf s = launched-left-all s (s .side .blit) e (started-queue-free a b h) in
     record {
-      starts = ap (λ (x : Engine). x .running) e;
+      starts = ap (λ (x : Engine). isSet (x .running)) e;
       alone = started-queue-free a b h;
       left = l;
       runs = λ n k. not-before n s (started-in-range a b h) (omega arith);

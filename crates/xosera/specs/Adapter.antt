@@ -3,14 +3,9 @@ use mathlib.Core.Bool.{Bool, false}
 use mathlib.Core.List.{List}
 use Prim.Native.Nat.{ℕ, _-_}
 use lib.Bits.{bitAnd, bitOr}
-use Rattle.xosera.specs.declared.Timer.{Timer}
-use Rattle.xosera.specs.declared.XrPort.{XrPort}
-use Rattle.xosera.specs.declared.VramPort.{VramPort}
-use Rattle.xosera.specs.declared.Host.{Host}
-use Rattle.xosera.specs.declared.Video.{Video}
+use Rattle.xosera.specs.State.{Timer, XrPort, VramPort, Host, Video, State, stateAt}
 use Rattle.xosera.specs.declared.BlitRegs.{BlitRegs}
 use Rattle.xosera.specs.declared.Engine.{Engine}
-use Rattle.xosera.specs.declared.State.{State}
 use Rattle.xosera.specs.Memories.{Store, noStore}
 
 -- The host's side: all that a host access changes and no blit step touches.
@@ -24,7 +19,7 @@ pub record Side : Type 0 where
 pub record Adapter : Type 0 where
   pub side : Side
   pub status : ℕ
-  pub queued : Bool
+  pub queued : ℕ
   pub engine : Engine
   pub vram : List ℕ
 
@@ -37,6 +32,10 @@ adapter s vram xr = record {
   engine = s .engine;
   vram = vram;
 }
+
+-- The adapter of the words lent as a state and the two memories lent with them.
+abbrev pub adapterAt : List ℕ → List ℕ → List ℕ → Adapter
+adapterAt words vram xr = adapter (stateAt words) vram xr
 
 -- The state of an adapter.
 abbrev pub stateOf : Adapter → State

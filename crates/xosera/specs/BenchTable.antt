@@ -62,12 +62,16 @@ abbrev pub table : List Row
 table =
     -- SHIFT 7801, 3 words 1234 5678 9ABC
     record {
-      gives = blitted (0x1234 ∷ 0x5678 ∷ 0x9ABC ∷ []) 3 (record { ctrl = 0; andc = 0; xor = 0; mods = 0; srcs = 0x10; modd = 0; dstd = 0; shift = 0x7801; lines = 0; words = 2 });
+      gives =
+          blitted (0x1234 ∷ 0x5678 ∷ 0x9ABC ∷ []) 3
+          (record { ctrl = 0; andc = 0; xor = 0; mods = 0; srcs = 0x10; modd = 0; dstd = 0; shift = 0x7801; lines = 0; words = 2 });
       should = 0xF123 ∷ 0x4567 ∷ 0x8FFF ∷ [];
     }
     -- constant 0F3C, ANDC 00FF, XOR 1111
     ∷ record {
-      gives = blitted [] 1 (record { ctrl = 1; andc = 0x00FF; xor = 0x1111; mods = 0; srcs = 0x0F3C; modd = 0; dstd = 0; shift = 0xFF00; lines = 0; words = 0 });
+      gives =
+          blitted [] 1
+          (record { ctrl = 1; andc = 0x00FF; xor = 0x1111; mods = 0; srcs = 0x0F3C; modd = 0; dstd = 0; shift = 0xFF00; lines = 0; words = 0 });
       should = 0x1E11 ∷ [];
     }
     -- constant 0B0A, CTRL 0A11
@@ -92,7 +96,9 @@ table =
     }
     -- source 0x10 holds A, target 0x11, 3 words
     ∷ record {
-      gives = seen 0x11 3 (afterAll (bench (0xA ∷ [])) (blit (record { ctrl = 0; andc = 0; xor = 0; mods = 0; srcs = 0x10; modd = 0; dstd = 0x11; shift = 0xFF00; lines = 0; words = 2 }) ++ run 9 ∷ []));
+      gives =
+          seen 0x11 3 (afterAll (bench (0xA ∷ []))
+          (blit (record { ctrl = 0; andc = 0; xor = 0; mods = 0; srcs = 0x10; modd = 0; dstd = 0x11; shift = 0xFF00; lines = 0; words = 2 }) ++ run 9 ∷ []));
       should = 0xA ∷ 0xA ∷ 0xA ∷ [];
     }
     -- nibble mask 2, data write 1234
@@ -124,22 +130,31 @@ table =
     }
     -- LINES 8000: one line
     ∷ record {
-      gives = told (afterAll (bench []) (blit (record { ctrl = 0; andc = 0; xor = 0; mods = 0; srcs = 0; modd = 0; dstd = 0; shift = 0xFF00; lines = 0x8000; words = 0 }))) (run 9 ∷ []);
+      gives =
+          told (afterAll (bench [])
+          (blit (record { ctrl = 0; andc = 0; xor = 0; mods = 0; srcs = 0; modd = 0; dstd = 0; shift = 0xFF00; lines = 0x8000; words = 0 })))
+          (run 9 ∷ []);
       should = 1 ∷ [];
     }
     -- 3 words running, 2 queued, run 4: count 4, busy, not full, bit 6
     ∷ record {
       gives =
-          told (afterAll (bench []) (blit (record { ctrl = 0; andc = 0; xor = 0; mods = 0; srcs = 0; modd = 0; dstd = 0; shift = 0xFF00; lines = 0; words = 2 }) ++ setXr 0x49 1))
+          told (afterAll (bench [])
+          (blit (record { ctrl = 0; andc = 0; xor = 0; mods = 0; srcs = 0; modd = 0; dstd = 0; shift = 0xFF00; lines = 0; words = 2 }) ++ setXr 0x49 1))
           (run 4 ∷ call (read 0 false) ∷ call (read 1 true) ∷ []);
       should = 4 ∷ 0x20 ∷ 0x40 ∷ [];
     }
     -- queued, then write ANDC: refusal 5, write address as before
     ∷ record {
       gives =
-          refused (afterAll (bench []) (blit (record { ctrl = 0; andc = 0; xor = 0; mods = 0; srcs = 0; modd = 0; dstd = 0; shift = 0xFF00; lines = 0; words = 0 }) ++ setXr 0x49 0 ++ setWord 4 0x41))
+          refused (afterAll (bench [])
+          (blit (record { ctrl = 0; andc = 0; xor = 0; mods = 0; srcs = 0; modd = 0; dstd = 0; shift = 0xFF00; lines = 0; words = 0 })
+          ++ setXr 0x49 0 ++ setWord 4 0x41))
           (setWord 5 0)
-          ++ told (afterAll (bench []) (blit (record { ctrl = 0; andc = 0; xor = 0; mods = 0; srcs = 0; modd = 0; dstd = 0; shift = 0xFF00; lines = 0; words = 0 }) ++ setXr 0x49 0 ++ setWord 4 0x41 ++ setWord 5 0)) (readWord 4);
+          ++ told (afterAll (bench [])
+          (blit (record { ctrl = 0; andc = 0; xor = 0; mods = 0; srcs = 0; modd = 0; dstd = 0; shift = 0xFF00; lines = 0; words = 0 })
+          ++ setXr 0x49 0 ++ setWord 4 0x41 ++ setWord 5 0))
+          (readWord 4);
       should = 0 ∷ 5 ∷ 0x00 ∷ 0x41 ∷ [];
     }
     ∷ []

@@ -1,11 +1,12 @@
 -- The 2D blitter (document 01, "The blitter"). An engine draws one word a step and knows nothing of the host.
-use mathlib.Core.Bool.{Bool, true, false, cond, _&&_}
+use mathlib.Core.Bool.{Bool, cond, _&&_}
 use mathlib.Core.List.{List}
 use Prim.Native.Nat.{ℕ, zero, suc, _+_, _*_, _-_, _/_, _%_}
 use lib.Bits.{bitAnd, bitOr}
 use lib.Dec.{eqb}
 use Rattle.xosera.specs.declared.BlitRegs.{BlitRegs}
 use Rattle.xosera.specs.declared.Engine.{Engine}
+use Rattle.xosera.specs.State.{isSet}
 use Rattle.xosera.specs.Words.{wrap, bit, shifted, combined, colourMask}
 use Rattle.xosera.specs.Memories.{word, Store, stored}
 use Rattle.xosera.specs.Adapter.{Adapter}
@@ -16,12 +17,12 @@ noRegs = record { ctrl = 0; andc = 0; xor = 0; mods = 0; srcs = 0; modd = 0; dst
 
 -- An idle engine: its working fields are all 0.
 abbrev pub idle : Engine
-idle = record { running = false; line = 0; word = 0; kept = 0; regs = noRegs }
+idle = record { running = 0; line = 0; word = 0; kept = 0; regs = noRegs }
 
 -- A blit starts with a copy of the ten registers, LINES taken mod 32,768, and an empty shifter.
 unfoldable pub launched : BlitRegs → Engine
 launched r = record {
-  running = true;
+  running = 1;
   line = 0;
   word = 0;
   kept = 0;
@@ -106,7 +107,7 @@ nextKept e vram = cond (lastWord e) 0 (cond (isConstant e) 0 (fetched e vram))
 -- The engine after one step that is not the blit's last.
 unfoldable pub next : Engine → List ℕ → Engine
 next e vram = record {
-  running = true;
+  running = 1;
   line = cond (lastWord e) (e .line + 1) (e .line);
   word = cond (lastWord e) 0 (e .word + 1);
   kept = nextKept e vram;
@@ -131,12 +132,12 @@ succeeding queued r = cond queued (launched r) idle
 -- One blit step. The last of a blit sets status bit 6 and starts the queued blit, if any.
 -- On an idle engine a step does nothing.
 unfoldable pub stepped : Adapter → Adapter
-stepped a = cond (a .engine .running)
+stepped a = cond (isSet (a .engine .running))
     (record {
       side = a .side;
       status = cond (lastStep (a .engine)) (bitOr (a .status) 64) (a .status);
-      queued = cond (lastStep (a .engine)) false (a .queued);
-      engine = cond (lastStep (a .engine)) (succeeding (a .queued) (a .side .blit)) (next (a .engine) (a .vram));
+      queued = cond (lastStep (a .engine)) 0 (a .queued);
+      engine = cond (lastStep (a .engine)) (succeeding (isSet (a .queued)) (a .side .blit)) (next (a .engine) (a .vram));
       vram = drawn (a .engine) (a .vram);
     })
     a
@@ -152,8 +153,8 @@ blitWords r = (r .lines % 32768 + 1) * (r .words + 1)
 
 -- The words left in an engine's blit: the rest of this line, and the lines after it.
 unfoldable pub engineLeft : Engine → ℕ
-engineLeft e = cond (e .running) ((e .regs .words + 1 - e .word) + (e .regs .lines - e .line) * (e .regs .words + 1)) 0
+engineLeft e = cond (isSet (e .running)) ((e .regs .words + 1 - e .word) + (e .regs .lines - e .line) * (e .regs .words + 1)) 0
 
 -- The words left in the running and queued blits.
 unfoldable pub wordsLeft : Adapter → ℕ
-wordsLeft a = engineLeft (a .engine) + cond (a .queued) (blitWords (a .side .blit)) 0
+wordsLeft a = engineLeft (a .engine) + cond (isSet (a .queued)) (blitWords (a .side .blit)) 0

@@ -1,6 +1,11 @@
 -- The calls of the base but reset (document 01, first paragraph, and "The order of things").
-use mathlib.Core.Bool.{Bool}
+use mathlib.Core.Bool.{Bool, cond}
 use Prim.Native.Nat.{ℕ}
+use Rattle.xosera.specs.declared.WriteAnswer.{WriteAnswer}
+use Rattle.xosera.specs.declared.ReadAnswer.{ReadAnswer}
+use Rattle.xosera.specs.declared.BlitAnswer.{BlitAnswer}
+use Rattle.xosera.specs.declared.StateAnswer.{StateAnswer}
+use Rattle.xosera.specs.declared.LineAnswer.{LineAnswer}
 
 -- A host access by register number, even (false) or odd (true), and byte; a timer tick; a frame end; the line question.
 pub data Call : Type 0 where
@@ -19,3 +24,19 @@ pub data Event : Type 0 where
 pub record Answer : Type 0 where
   pub refusal : ℕ
   pub value : ℕ
+
+-- The answer that each returned struct stands for.
+abbrev pub ofWrite : WriteAnswer → Answer
+ofWrite r = record { refusal = r .refusal; value = 0 }
+
+abbrev pub ofRead : ReadAnswer → Answer
+ofRead r = record { refusal = r .refusal; value = r .byte }
+
+abbrev pub ofBlit : BlitAnswer → Answer
+ofBlit r = record { refusal = r .refusal; value = r .count }
+
+abbrev pub ofState : StateAnswer → Answer
+ofState r = record { refusal = r .refusal; value = 0 }
+
+abbrev pub ofLine : LineAnswer → Answer
+ofLine r = record { refusal = r .refusal; value = cond (r .up) 1 0 }

@@ -4,20 +4,20 @@ use mathlib.Core.List.{List, [], _∷_}
 use Prim.Native.Nat.{ℕ, _+_, _*_, _/_, _%_}
 use lib.Dec.{eqb}
 use lib.ListN.{getD, set}
-use Rattle.xosera.specs.declared.Timer.{Timer}
-use Rattle.xosera.specs.declared.Host.{Host}
+use Rattle.xosera.specs.State.{Timer, Host}
 use Rattle.xosera.specs.Words.{wrap}
 use Rattle.xosera.specs.Memories.{noStore}
-use Rattle.xosera.specs.Adapter.{Side, Act, quiet, kept, cleared, withHost, withTimer, withXrPort, withVramPort, withIntMask, withLatches, withRdXaddr, withWrXaddr, withNibbles, withRdIncr, withRdAddr, withWrIncr, withWrAddr}
+use Rattle.xosera.specs.Adapter.{Side, Act, quiet, kept, cleared, withHost, withTimer, withXrPort, withVramPort}
+use Rattle.xosera.specs.Adapter.{withIntMask, withLatches, withRdXaddr, withWrXaddr, withNibbles, withRdIncr, withRdAddr, withWrIncr, withWrAddr}
 use Rattle.xosera.specs.XrSpace.{xrRead, xrWrite}
 
 -- The word of an odd write: the register's latch and the byte.
 unfoldable pub wordOf : ℕ → ℕ → ℕ
 wordOf latch byte = latch * 256 + byte
 
--- An even write only fills the register's own latch.
+-- An even write only fills the register's own latch, with a byte.
 unfoldable pub latched : Host → ℕ → ℕ → Host
-latched h r b = withLatches h (set (h .latches) r b)
+latched h r b = withLatches h (set (h .latches) r (b % 256))
 
 -- The XR read address moves to a, and the XR read buffer is loaded from there.
 unfoldable pub xrLoaded : Side → ℕ → Side

@@ -1,4 +1,5 @@
 -- Document 01 as definitions, in an order in which each module uses only those before it.
+pub mod State
 pub mod Words
 pub mod Memories
 pub mod Adapter

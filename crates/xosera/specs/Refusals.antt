@@ -1,14 +1,12 @@
 -- What a call can say, and the ranges of the state (document 01, "What a call can say").
-use mathlib.Core.Bool.{Bool, false, cond, not, _&&_, _||_}
+use mathlib.Core.Bool.{Bool, true, cond, not, _&&_, _||_}
 use mathlib.Core.List.{List, [], _∷_}
-use Prim.Native.Nat.{ℕ, suc}
+use Prim.Native.Nat.{ℕ}
 use lib.Dec.{leb, ltb, eqb}
 use lib.ListN.{length, getD, replicate}
-use Rattle.xosera.specs.declared.Timer.{Timer}
-use Rattle.xosera.specs.declared.Host.{Host}
+use Rattle.xosera.specs.State.{Timer, Host, State, isSet}
 use Rattle.xosera.specs.declared.BlitRegs.{BlitRegs}
 use Rattle.xosera.specs.declared.Engine.{Engine}
-use Rattle.xosera.specs.declared.State.{State}
 use Rattle.xosera.specs.Words.{bit}
 use Rattle.xosera.specs.Memories.{isVramLength, isXrLength}
 use Rattle.xosera.specs.Adapter.{Adapter, stateOf}
@@ -21,9 +19,15 @@ use Rattle.xosera.specs.Events.{Event, write, read, tick, frameEnd, line
 unfoldable pub timerInRange : Timer → Bool
 timerInRange t = leb 1 (t .countdown) && leb (t .countdown) (t .interval) || eqb (t .countdown) 0 && eqb (t .interval) 0
 
--- Nibble mask at most 15, interrupt mask at most 127, and the countdown.
+-- Bytes are at most 255.
+unfoldable pub areBytes : List ℕ → Bool
+areBytes [] = true
+areBytes (b ∷ bs) = leb b 255 && areBytes bs
+
+-- Nibble mask at most 15, interrupt mask at most 127, the countdown, and the latches and the saved timer byte, which are bytes.
 unfoldable pub hostInRange : Host → Bool
-hostInRange h = leb (h .vram .nibbles) 15 && leb (h .intmask) 127 && timerInRange (h .timer)
+hostInRange h =
+    leb (h .vram .nibbles) 15 && leb (h .intmask) 127 && timerInRange (h .timer) && leb (h .timer .saved) 255 && areBytes (h .latches)
 
 -- Running line and word at most the copied counts, copied lines at most 32,767, kept word 0 on a line's first word.
 unfoldable pub runningInRange : Engine → Bool
@@ -37,17 +41,18 @@ isNoRegs r =
     eqb (r .ctrl) 0 && eqb (r .andc) 0 && eqb (r .xor) 0 && eqb (r .mods) 0 && eqb (r .srcs) 0
     && eqb (r .modd) 0 && eqb (r .dstd) 0 && eqb (r .shift) 0 && eqb (r .lines) 0 && eqb (r .words) 0
 
--- When idle the working fields are all 0, copied registers and kept shifter word included.
+-- When idle the engine's fields are all 0, the flag, copied registers and kept shifter word included.
 unfoldable pub idleInRange : Engine → Bool
-idleInRange e = eqb (e .line) 0 && eqb (e .word) 0 && eqb (e .kept) 0 && isNoRegs (e .regs)
+idleInRange e = eqb (e .running) 0 && eqb (e .line) 0 && eqb (e .word) 0 && eqb (e .kept) 0 && isNoRegs (e .regs)
 
 -- Both, by whether the engine runs.
 unfoldable pub engineInRange : Engine → Bool
-engineInRange e = cond (e .running) (runningInRange e) (idleInRange e)
+engineInRange e = cond (isSet (e .running)) (runningInRange e) (idleInRange e)
 
--- The state within its ranges: status at most 127, queued only while running, and the above.
+-- The state within its ranges: status at most 127, queued only while running, and the above. The flag `running` is 1, or 0 by
+-- the engine's range, so `queued` is at most 1 too.
 unfoldable pub inRange : State → Bool
-inRange s = hostInRange (s .host) && leb (s .status) 127 && (not (s .queued) || s .engine .running) && engineInRange (s .engine)
+inRange s = hostInRange (s .host) && leb (s .status) 127 && leb (s .queued) (s .engine .running) && engineInRange (s .engine)
 
 -- Reset: all 0 but nibble mask 15 and XR_VID_RIGHT 640.
 abbrev pub resetState : State
@@ -62,7 +67,7 @@ resetState = record {
   video = record { vidctrl = 0; coppctrl = 0; audctrl = 0; vidleft = 0; vidright = 640; pa = replicate 7 0; pb = replicate 7 0 };
   blit = noRegs;
   engine = idle;
-  queued = false;
+  queued = 0;
   status = 0;
 }
 
@@ -84,27 +89,38 @@ badRegister r = not (ltb r 16)
 
 -- 5: odd-byte write to XM_XDATA, address 0x40 to 0x49, blitter full.
 unfoldable pub blitterFull : Adapter → ℕ → Bool → Bool
-blitterFull a r odd = odd && eqb r 5 && isBlitRegister (a .side .host .xr .wrxaddr .0) && a .queued
+blitterFull a r odd = odd && eqb r 5 && isBlitRegister (a .side .host .xr .wrxaddr .0) && isSet (a .queued)
 
 -- 6: odd-byte write to XM_INT_CTRL whose word has bit 15 set.
 unfoldable pub reconfigures : Adapter → ℕ → Bool → ℕ → Bool
 reconfigures a r odd b = odd && eqb r 1 && bit 15 (wordOf (getD (a .side .host .latches) r 0) b)
 
--- Which of the refusals 1, 2, .. apply to an event. Timer tick, frame end and line question take only the state.
-unfoldable pub applying : Adapter → Event → List Bool
-applying a (call (write r odd b)) = badVram a ∷ badXr a ∷ badState a ∷ badRegister r ∷ blitterFull a r odd ∷ reconfigures a r odd b ∷ []
-applying a (call (read r odd)) = badVram a ∷ badXr a ∷ badState a ∷ badRegister r ∷ []
-applying a (call tick) = false ∷ false ∷ badState a ∷ []
-applying a (call frameEnd) = false ∷ false ∷ badState a ∷ []
-applying a (call line) = false ∷ false ∷ badState a ∷ []
-applying a step = badVram a ∷ badXr a ∷ badState a ∷ []
-applying a (run n) = badVram a ∷ badXr a ∷ badState a ∷ []
+-- A refusal: its number, and whether it applies.
+infix 5 _when_
+pub record Test : Type 0 where
+  pub number : ℕ
+  pub applies : Bool
 
--- The number of the first that applies, counted from n; 0, done, where none does.
-unfoldable pub lowest : ℕ → List Bool → ℕ
-lowest n [] = 0
-lowest n (applies ∷ more) = cond applies n (lowest (suc n) more)
+abbrev pub _when_ : ℕ → Bool → Test
+n when b = record { number = n; applies = b }
 
--- The lowest number that applies, and none otherwise.
+-- The tests of an event, in their order. Timer tick, frame end and line question take only the state.
+unfoldable pub tests : Adapter → Event → List Test
+tests a (call (write r odd b)) =
+    (1 when badVram a) ∷ (2 when badXr a) ∷ (3 when badState a) ∷ (4 when badRegister r)
+    ∷ (5 when blitterFull a r odd) ∷ (6 when reconfigures a r odd b) ∷ []
+tests a (call (read r odd)) = (1 when badVram a) ∷ (2 when badXr a) ∷ (3 when badState a) ∷ (4 when badRegister r) ∷ []
+tests a (call tick) = (3 when badState a) ∷ []
+tests a (call frameEnd) = (3 when badState a) ∷ []
+tests a (call line) = (3 when badState a) ∷ []
+tests a step = (1 when badVram a) ∷ (2 when badXr a) ∷ (3 when badState a) ∷ []
+tests a (run n) = (1 when badVram a) ∷ (2 when badXr a) ∷ (3 when badState a) ∷ []
+
+-- The number of the first test that applies; 0, done, where none does.
+unfoldable pub first : List Test → ℕ
+first [] = 0
+first (t ∷ more) = cond (t .applies) (t .number) (first more)
+
+-- What an event is refused with: the first that applies, and none otherwise.
 unfoldable pub refusal : Adapter → Event → ℕ
-refusal a e = lowest 1 (applying a e)
+refusal a e = first (tests a e)

@@ -16,7 +16,7 @@ startWith b = call (write 5 true b)
 pub record Starts (a : Adapter) (b : ℕ) : Type 0 where
   pub accepted : refusal a (startWith b) ≡ 0
   pub words : a .side .host .xr .wrxaddr .0 ≡ 0x49
-  pub idle : a .engine .running ≡ false
+  pub idle : a .engine .running ≡ 0
 
 -- W times L, as copied at the start.
 unfoldable pub wordsOf : Adapter → ℕ

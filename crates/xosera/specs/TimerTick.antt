@@ -2,7 +2,7 @@
 use mathlib.Core.Bool.{Bool, false, cond}
 use Prim.Native.Nat.{ℕ, _-_}
 use lib.Dec.{eqb}
-use Rattle.xosera.specs.declared.Timer.{Timer}
+use Rattle.xosera.specs.State.{Timer}
 use Rattle.xosera.specs.Words.{wrap}
 use Rattle.xosera.specs.Memories.{noStore}
 use Rattle.xosera.specs.Adapter.{Side, Act, kept, raised, withHost, withTimer}

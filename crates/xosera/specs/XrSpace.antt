@@ -4,7 +4,7 @@ use mathlib.Core.List.{List, [], _∷_}
 use Prim.Native.Nat.{ℕ, _+_, _-_}
 use lib.Dec.{leb, ltb, eqb}
 use lib.ListN.{getD, set}
-use Rattle.xosera.specs.declared.Video.{Video}
+use Rattle.xosera.specs.State.{Video}
 use Rattle.xosera.specs.declared.BlitRegs.{BlitRegs}
 use Rattle.xosera.specs.Memories.{noStore}
 use Rattle.xosera.specs.Adapter.{Side, Act, kept, raised}

@@ -1,4 +1,5 @@
-// The adapter's state and what a call answers, by value. The meaning of every field is in specs/.
+// The adapter's types by value: the two kinds of address, the blitter's registers and engine, and what a call answers. The
+// state is a fixed number of 16-bit words, lent to each call; their meaning is in specs/State.antt, their names are here.
 
 // An address in VRAM.
 #[repr(C)]
@@ -7,57 +8,6 @@ pub struct VramAddr(pub u16);
 // An address in the extended (XR) space. It never stands for a VRAM address.
 #[repr(C)]
 pub struct XrAddr(pub u16);
-
-// XM_TIMER: the timer, the countdown with its interval, and the low byte that an even read saved.
-#[repr(C)]
-pub struct Timer {
-    pub count: u16,
-    pub countdown: u16,
-    pub interval: u16,
-    pub saved: u8,
-}
-
-// XM_RD_XADDR, XM_WR_XADDR and the read buffer of XM_XDATA.
-#[repr(C)]
-pub struct XrPort {
-    pub rdxaddr: XrAddr,
-    pub wrxaddr: XrAddr,
-    pub buffer: u16,
-}
-
-// XM_RD_INCR to XM_WR_ADDR, the read buffer of XM_DATA and the nibble mask.
-#[repr(C)]
-pub struct VramPort {
-    pub rdincr: u16,
-    pub rdaddr: VramAddr,
-    pub wrincr: u16,
-    pub wraddr: VramAddr,
-    pub buffer: u16,
-    pub nibbles: u8,
-}
-
-// The main registers, the interrupt status apart.
-#[repr(C)]
-pub struct Host {
-    pub latches: [u8; 16],
-    pub xr: XrPort,
-    pub vram: VramPort,
-    pub timer: Timer,
-    pub intmask: u8,
-}
-
-// The stored registers of the XR space: 0x00 to 0x05 but 0x03, which is not stored, and seven each from
-// 0x10 and 0x18 on for the two playfields.
-#[repr(C)]
-pub struct Video {
-    pub vidctrl: u16,
-    pub coppctrl: u16,
-    pub audctrl: u16,
-    pub vidleft: u16,
-    pub vidright: u16,
-    pub pa: [u16; 7],
-    pub pb: [u16; 7],
-}
 
 // The blitter's ten registers, 0x40 to 0x49.
 #[repr(C)]
@@ -74,39 +24,26 @@ pub struct BlitRegs {
     pub words: u16,
 }
 
-// The running blit: the registers as copied, SRC_S and DST_D moving on in place, the line and the
-// word that come next, and the source word kept for the shifter.
+// The running blit: whether one runs, 1 or 0; the line and the word that come next; the source word kept for the
+// shifter; and the registers as copied, SRC_S and DST_D moving on in place.
 #[repr(C)]
 pub struct Engine {
-    pub running: bool,
+    pub running: u16,
     pub line: u16,
     pub word: u16,
     pub kept: u16,
     pub regs: BlitRegs,
 }
 
-// The whole state.
-#[repr(C)]
-pub struct State {
-    pub host: Host,
-    pub queued: bool,
-    pub status: u8,
-    pub engine: Engine,
-    pub video: Video,
-    pub blit: BlitRegs,
-}
-
 // What writing a byte answers. In every answer `refusal` is 0 for done.
 #[repr(C)]
 pub struct WriteAnswer {
-    pub state: State,
     pub refusal: u8,
 }
 
 // What reading a byte answers.
 #[repr(C)]
 pub struct ReadAnswer {
-    pub state: State,
     pub refusal: u8,
     pub byte: u8,
 }
@@ -114,7 +51,6 @@ pub struct ReadAnswer {
 // What a blit step and a run of blit steps answer: how many words were done.
 #[repr(C)]
 pub struct BlitAnswer {
-    pub state: State,
     pub refusal: u8,
     pub count: u64,
 }
@@ -122,14 +58,100 @@ pub struct BlitAnswer {
 // What a timer tick and a frame end answer.
 #[repr(C)]
 pub struct StateAnswer {
-    pub state: State,
     pub refusal: u8,
 }
 
 // What the line question answers: whether the interrupt line is up.
 #[repr(C)]
 pub struct LineAnswer {
-    pub state: State,
     pub refusal: u8,
     pub up: bool,
 }
+
+// How many words a state has, and which of them stands for which field (specs/State.antt).
+pub const STATE_WORDS: usize = 75;
+
+// Sixteen latches, one for each main register.
+pub const LATCHES: usize = 0;
+
+// The ports' registers and read buffers.
+pub const RD_XADDR: usize = 16;
+
+pub const WR_XADDR: usize = 17;
+
+pub const XDATA: usize = 18;
+
+pub const RD_INCR: usize = 19;
+
+pub const RD_ADDR: usize = 20;
+
+pub const WR_INCR: usize = 21;
+
+pub const WR_ADDR: usize = 22;
+
+pub const DATA: usize = 23;
+
+pub const NIBBLES: usize = 24;
+
+// The timer, the countdown and its interval, the saved low byte.
+pub const TIMER: usize = 25;
+
+pub const COUNTDOWN: usize = 26;
+
+pub const INTERVAL: usize = 27;
+
+pub const SAVED: usize = 28;
+
+// Interrupts and the queue.
+pub const INT_MASK: usize = 29;
+
+pub const QUEUED: usize = 30;
+
+pub const STATUS: usize = 31;
+
+// The engine: its ten copied registers stand in the order of their addresses.
+pub const RUNNING: usize = 32;
+
+pub const LINE: usize = 33;
+
+pub const WORD: usize = 34;
+
+pub const KEPT: usize = 35;
+
+pub const ENGINE_CTRL: usize = 36;
+
+pub const ENGINE_ANDC: usize = 37;
+
+pub const ENGINE_XOR: usize = 38;
+
+pub const ENGINE_MOD_S: usize = 39;
+
+pub const ENGINE_SRC_S: usize = 40;
+
+pub const ENGINE_MOD_D: usize = 41;
+
+pub const ENGINE_DST_D: usize = 42;
+
+pub const ENGINE_SHIFT: usize = 43;
+
+pub const ENGINE_LINES: usize = 44;
+
+pub const ENGINE_WORDS: usize = 45;
+
+// The stored registers of the XR space, and seven each for the two playfields.
+pub const VID_CTRL: usize = 46;
+
+pub const COPP_CTRL: usize = 47;
+
+pub const AUD_CTRL: usize = 48;
+
+pub const VID_LEFT: usize = 49;
+
+pub const VID_RIGHT: usize = 50;
+
+pub const PLAYFIELD_A: usize = 51;
+
+pub const PLAYFIELD_B: usize = 58;
+
+// The blitter's ten registers as the host wrote them.
+pub const BLIT_REGS: usize = 65;

@@ -1,0 +1,131 @@
+-- The words of a state: what they stand for after stores, and that no two lists of words stand for the same state.
+use mathlib.Core.Path.{_≡_, refl, sym, ap, ap₂, subst, _∙_}
+use mathlib.Core.Bool.{Bool, true, false, cond, _&&_, true≢false}
+use mathlib.Core.List.{List, [], _∷_, _++_}
+use Prim.Native.Nat.{ℕ, zero, suc, _+_, _≤_, _<_}
+use native.Mathlib.Omega.{arith}
+use native.Mathlib.Decide.{ℕ-discrete}
+use native.Mathlib.Nat.{add-zero}
+use borrow.Author.Tests.{eq-eqb, ne-eqb, ltb-true}
+use lib.Dec.{eqb, ltb}
+use lib.ListN.{length, getD, set, length-set}
+use lib.Seq.{getD-set-same, getD-set-other}
+use Rattle.xosera.specs.declared.BlitRegs.{BlitRegs}
+use Rattle.xosera.specs.State.{State, stateWords, wordsFrom, stateBy, wordAt, stateAt}
+use Rattle.xosera.specs.Adapter.{adapter, adapterAt}
+
+-- Words read with another one at a place.
+abbrev pub put : ℕ → ℕ → (ℕ → ℕ) → ℕ → ℕ
+put at w word k = cond (eqb k at) w (word k)
+
+-- A state's words, and what each of them is.
+record Holds (ws : List ℕ) (word : ℕ → ℕ) : Type 0 where
+  size : length ws ≡ stateWords
+  words : wordAt ws ≡ word
+
+put-at : (ws : List ℕ) (at w k : ℕ) → at < length ws → wordAt (set ws at w) k ≡ put at w (wordAt ws) k
+put-at ws at w k h = go (ℕ-discrete k at)
+  where
+    go : Dec (k ≡ at) → wordAt (set ws at w) k ≡ put at w (wordAt ws) k
+    go (yes e) = rw (eq-eqb k at e, e) (getD-set-same ws at w 0 h)
+    go (no d) = rw (ne-eqb k at d) (getD-set-other ws at k w 0 d)
+
+stored-at : {ws : List ℕ} {word : ℕ → ℕ} → Holds ws word → (at w : ℕ) → ltb at stateWords ≡ true → Holds (set ws at w) (put at w word)
+stored-at {ws} {word} h at w l = record {
+  size = length-set ws at w ∙ h .size;
+  words = λ i k. (put-at ws at w k (omega (arith, ltb-true at stateWords l, h .size)) ∙ ap (λ (f : ℕ → ℕ). put at w f k) (h .words)) i;
+}
+
+-- Stores, one after another: a place and what its word takes.
+infix 5 _takes_
+pub record Stored : Type 0 where
+  pub place : ℕ
+  pub value : ℕ
+
+abbrev pub _takes_ : ℕ → ℕ → Stored
+at takes w = record { place = at; value = w }
+
+abbrev pub setAll : List ℕ → List Stored → List ℕ
+setAll ws [] = ws
+setAll ws (p ∷ more) = setAll (set ws (p .place) (p .value)) more
+
+abbrev pub putAll : List Stored → (ℕ → ℕ) → ℕ → ℕ
+putAll [] word = word
+putAll (p ∷ more) word = putAll more (put (p .place) (p .value) word)
+
+abbrev pub allPlaced : List Stored → Bool
+allPlaced [] = true
+allPlaced (p ∷ more) = ltb (p .place) stateWords && allPlaced more
+
+hold-all : (ws : List ℕ) (word : ℕ → ℕ) (ps : List Stored) → Holds ws word → allPlaced ps ≡ true → Holds (setAll ws ps) (putAll ps word)
+hold-all ws word [] h l = h
+hold-all ws word (p ∷ more) h l =
+    let k = both (ltb (p .place) stateWords) (allPlaced more) l in
+    hold-all _ _ more (stored-at h (p .place) (p .value) (k .0)) (k .1)
+  where
+    both : (a b : Bool) → (a && b) ≡ true → (a ≡ true) × (b ≡ true)
+    both true b e = (refl, e)
+    both false b e = absurd (true≢false (sym e))
+
+module _ (ws : List ℕ) (size : length ws ≡ stateWords) (ps : List Stored) (placed : allPlaced ps ≡ true) where
+  -- The state that the words stand for after stores to them.
+  pub stored-state : stateAt (setAll ws ps) ≡ stateBy (putAll ps (wordAt ws))
+  unfolding stateAt
+  stored-state = ap stateBy (hold-all ws (wordAt ws) ps (record { size = size; words = refl }) placed .words)
+
+  -- The adapter that they stand for, with both memories.
+  pub stored-adapter : (v x : List ℕ) → adapterAt (setAll ws ps) v x ≡ adapter (stateBy (putAll ps (wordAt ws))) v x
+  stored-adapter v x = ap (λ (s : State). adapter s v x) stored-state
+
+-- What holds of each of n numbers, from one on.
+abbrev pub AllFrom : (ℕ → Type 0) → ℕ → ℕ → Type 0
+AllFrom P at zero = Unit {0}
+AllFrom P at (suc n) = P at × AllFrom P (suc at) n
+
+infixr 20 _and_
+abbrev pub _and_ : {A B : Type 0} → A → B → A × B
+a and b = (a, b)
+
+-- What holds of each holds of every one of them.
+pub within-all : (P : ℕ → Type 0) (n at : ℕ) → AllFrom P at n → (k : ℕ) → at ≤ k → k < at + n → P k
+within-all P zero at all k l h = absurd (omega arith)
+within-all P (suc n) at all k l h = pick (ℕ-discrete k at) (λ d. within-all P n (suc at) (all .1) k (omega (arith, d)) (omega arith))
+  where
+    pick : Dec (k ≡ at) → ((k ≡ at → ⊥) → P k) → P k
+    pick (yes e) more = subst P (sym e) (all .0)
+    pick (no d) more = more d
+
+pub below : (P : ℕ → Type 0) (n : ℕ) → AllFrom P 0 n → (k : ℕ) → k < n → P k
+below P n all k h = within-all P n 0 all k (omega arith) (omega arith)
+
+-- The words of a state, in their order: its fields one after another.
+regWords : BlitRegs → List ℕ
+regWords r =
+    r .ctrl ∷ r .andc ∷ r .xor ∷ r .mods ∷ r .srcs ∷ r .modd ∷ r .dstd ∷ r .shift ∷ r .lines ∷ r .words ∷ []
+
+laidOut : State → List ℕ
+laidOut s =
+    let h = s .host in
+    let v = s .video in
+    let e = s .engine in
+    h .latches ++ (h .xr .rdxaddr .0 ∷ h .xr .wrxaddr .0 ∷ h .xr .buffer ∷ [])
+    ++ (h .vram .rdincr ∷ h .vram .rdaddr .0 ∷ h .vram .wrincr ∷ h .vram .wraddr .0 ∷ h .vram .buffer ∷ h .vram .nibbles ∷ [])
+    ++ (h .timer .count ∷ h .timer .countdown ∷ h .timer .interval ∷ h .timer .saved ∷ h .intmask ∷ s .queued ∷ s .status ∷ [])
+    ++ (e .running ∷ e .line ∷ e .word ∷ e .kept ∷ []) ++ regWords (e .regs)
+    ++ (v .vidctrl ∷ v .coppctrl ∷ v .audctrl ∷ v .vidleft ∷ v .vidright ∷ []) ++ v .pa ++ v .pb ++ regWords (s .blit)
+
+-- A list is the list of its words.
+spelled : (n : ℕ) (at : ℕ) (word : ℕ → ℕ) (ws : List ℕ) → length ws ≡ n → ((k : ℕ) → word (at + k) ≡ wordAt ws k) → wordsFrom n at word ≡ ws
+spelled zero at word [] h e = refl
+spelled zero at word (w ∷ ws) h e = absurd (omega arith)
+spelled (suc n) at word [] h e = absurd (omega arith)
+spelled (suc n) at word (w ∷ ws) h e =
+    ap₂ _∷_ (rw add-zero at (e 0)) (spelled n (suc at) word ws (omega arith) (λ k. ap word (omega arith) ∙ e (suc k)))
+
+words-back : (ws : List ℕ) → length ws ≡ stateWords → laidOut (stateAt ws) ≡ ws
+unfolding laidOut regWords stateAt
+words-back ws h = spelled stateWords 0 (wordAt ws) ws h (λ k. ap (wordAt ws) (omega arith))
+
+-- Two different lists of words are two different states: equal states are equal memory.
+pub same-state-same-words : (ws us : List ℕ) → length ws ≡ stateWords → length us ≡ stateWords → stateAt ws ≡ stateAt us → ws ≡ us
+same-state-same-words ws us h k e = sym (words-back ws h) ∙ ap laidOut e ∙ words-back us k
