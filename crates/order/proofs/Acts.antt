@@ -7,11 +7,13 @@ use lib.Dec.{eqb}
 use lib.ListN.{getD}
 use borrow.Author.Tests.{eq-eqb, ne-eqb}
 use Rattle.xosera.specs.declared.BlitRegs.{BlitRegs}
+use Rattle.xosera.specs.State.{isSet}
 use Rattle.xosera.specs.Words.{wrap}
 use Rattle.xosera.specs.Memories.{place, Store, noStore}
 use Rattle.xosera.specs.Adapter.{Side, Adapter, Act}
 use Rattle.xosera.specs.XrSpace.{within, isBlitRegister, put, blitWrite, xrWrite}
-use Rattle.xosera.specs.HostBytes.{wordOf, latched, xrLoaded, vramLoad, writeXdata, writeRdAddr, writeData, writeNothing, writes, writeWord, writeByte, readByte, readData}
+use Rattle.xosera.specs.HostBytes.{wordOf, latched, xrLoaded, vramLoad, writeXdata, writeRdAddr, writeData, writeNothing}
+use Rattle.xosera.specs.HostBytes.{writes, writeWord, writeByte, readByte, readData}
 use Rattle.xosera.specs.TimerTick as TimerTick
 use Rattle.xosera.specs.Events.{Call, write, read, tick, frameEnd, line, call}
 use Rattle.xosera.specs.Refusals.{blitterFull}
@@ -27,7 +29,7 @@ pub record Worded (a : Adapter) (c : Call) (p : Act) : Type 0 where
   pub starts : p .start ≡ true → callStarts a c ≡ true
   pub writes : (w : ℕ) → touches (p .store) (a .vram) w ≡ true → callWrites a c w ≡ true
   pub loads : p .load ≡ true → callLoads a c (place (a .vram) (p .side .host .vram .rdaddr .0)) ≡ true
-  pub waits : callTries a c ≡ false → a .queued ≡ true → p .side .blit ≡ a .side .blit
+  pub waits : callTries a c ≡ false → isSet (a .queued) ≡ true → p .side .blit ≡ a .side .blit
 
 -- What an act asks besides the host's side and the status.
 abbrev asked : Act → Store × Bool × Bool × BlitRegs

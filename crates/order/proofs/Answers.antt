@@ -3,7 +3,7 @@ use mathlib.Core.Path.{_≡_, refl, ap}
 use mathlib.Core.Bool.{Bool, true, false, cond}
 use Prim.Native.Nat.{ℕ, zero, suc}
 use lib.Dec.{eqb}
-use Rattle.xosera.specs.declared.Host.{Host}
+use Rattle.xosera.specs.State.{Host, isSet}
 use Rattle.xosera.specs.declared.Engine.{Engine}
 use Rattle.xosera.specs.Words.{withoutBit}
 use Rattle.xosera.specs.Adapter.{Side, Adapter}
@@ -57,8 +57,8 @@ module _ {full : Bool} (a r : Adapter) (f : Finishes full a r) where
   host-alike : r .side .host ≡ a .side .host
   host-alike = ap (λ (s : Side). s .host) (f .side)
 
-  reference-off : r .engine .running ≡ false
-  reference-off = ap (λ (e : Engine). e .running) (f .engine)
+  reference-off : isSet (r .engine .running) ≡ false
+  reference-off = ap (λ (e : Engine). isSet (e .running)) (f .engine)
 
   status-alike : withoutBit 6 (r .status) ≡ withoutBit 6 (a .status)
   status-alike = without-alike (r .status) (a .status) (fit-status r (f .fit-ref)) (fit-status a (f .fit)) (f .status)
@@ -67,7 +67,8 @@ module _ {full : Bool} (a r : Adapter) (f : Finishes full a r) where
   unfolding given
   given-alike (write n odd b) = refl
   given-alike (read n true) = rw host-alike (low-alike full (a .side .host) (r .status) (a .status) n status-alike)
-  given-alike (read n false) = rw (host-alike, f .unqueued, reference-off) (high-alike full (a .side .host) (a .queued) (a .engine .running) n (f .alone))
+  given-alike (read n false) =
+      rw (host-alike, f .unqueued, reference-off) (high-alike full (a .side .host) (isSet (a .queued)) (isSet (a .engine .running)) n (f .alone))
   given-alike tick = refl
   given-alike frameEnd = refl
   given-alike line = line-free full (given r (call line)) (given a (call line))

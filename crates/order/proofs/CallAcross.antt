@@ -6,6 +6,7 @@ use mathlib.Core.List.{List}
 use Prim.Native.Nat.{ℕ}
 use lib.Dec.{eqb}
 use Rattle.xosera.specs.declared.BlitRegs.{BlitRegs}
+use Rattle.xosera.specs.State.{isSet}
 use Rattle.xosera.specs.Memories.{place, word, Store, stored}
 use Rattle.xosera.specs.Adapter.{Side, Adapter, Act}
 use Rattle.xosera.specs.Blitter.{blitWords, wordsLeft}
@@ -32,8 +33,8 @@ left-cases false r s h = refl
 beside-left : (k : Store) (a b : Adapter) → Beside k a b → wordsLeft b ≡ wordsLeft a
 unfolding wordsLeft
 beside-left k a b h =
-    let waiting : cond (a .queued) (blitWords (b .side .blit)) 0 ≡ cond (a .queued) (blitWords (a .side .blit)) 0 =
-    left-cases (a .queued) (a .side .blit) (b .side .blit) (h .waiting) in
+    let waiting : cond (isSet (a .queued)) (blitWords (b .side .blit)) 0 ≡ cond (isSet (a .queued)) (blitWords (a .side .blit)) 0 =
+    left-cases (isSet (a .queued)) (a .side .blit) (b .side .blit) (h .waiting) in
     cc (h .engine, h .queued)
 
 -- The address that an act leaves in 7.
@@ -46,7 +47,7 @@ record Aside (p : Act) (a : Adapter) : Type 0 where
   start : p .start ≡ false
   clear : Clear (wordsLeft a) (p .store) a
   unwritten : p .load ≡ true → blitWrites (wordsLeft a) a (place (a .vram) (readAddress p)) ≡ false
-  waits : a .queued ≡ true → p .side .blit ≡ a .side .blit
+  waits : isSet (a .queued) ≡ true → p .side .blit ≡ a .side .blit
 
 module _ (p : Act) (a : Adapter) (aside : Aside p a) where
   keeps-blit : perform p a .side .blit ≡ p .side .blit
@@ -78,7 +79,8 @@ module _ (p : Act) (a : Adapter) (aside : Aside p a) where
   loads-alike load =
       let here : place (perform p a .vram) (readAddress p) ≡ place (a .vram) (readAddress p) = stored-place (p .store) (a .vram) (readAddress p) in
       rw performed-left
-      (unwritten-stays (wordsLeft a) (perform p a) (readAddress p) (rw here (performed-words .writes (place (a .vram) (readAddress p)) ∙ aside .unwritten load)))
+      (unwritten-stays (wordsLeft a) (perform p a) (readAddress p)
+      (rw here (performed-words .writes (place (a .vram) (readAddress p)) ∙ aside .unwritten load)))
 
   module _ (r : Adapter) (vram : r .vram ≡ finished a .vram) where
     vram-alike : perform p r .vram ≡ finished (perform p a) .vram
@@ -109,7 +111,7 @@ performed-finishes p a r aside f fit fit-ref = record {
   unqueued = cond-no _ _ (aside .start) ∙ f .unqueued;
   vram = vram-alike p a aside r (f .vram);
   status = changed-alike (p .status) (r .status) (a .status) (f .status);
-  alone = λ no. cond-no _ _ (aside .start) ∙ f .alone no;
+  alone = λ no. ap isSet (cond-no _ _ (aside .start)) ∙ f .alone no;
 }
 
 after-accepted : (a : Adapter) (c : Call) → accepted a (call c) ≡ true → after a (call c) ≡ perform (actOf (a .side) c) a
@@ -127,7 +129,7 @@ module _ {full : Bool} {reads writes : ℕ → Bool} {n : ℕ} (a r : Adapter) (
 
   -- Both orders refuse the call, or neither does.
   pub call-refused-alike : refusal r (call c) ≡ refusal a (call c)
-  call-refused-alike = refused-alike a r c (f .fit) (f .fit-ref) (f .side) patient (unqueued-patient r c (f .unqueued))
+  call-refused-alike = refused-alike a r c (f .fit) (f .fit-ref) (f .side) patient (unqueued-patient r c (ap isSet (f .unqueued)))
 
   accepted-alike : accepted r (call c) ≡ accepted a (call c)
   unfolding accepted

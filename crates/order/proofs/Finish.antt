@@ -5,6 +5,7 @@ use mathlib.Core.Bool.{Bool, true, false}
 use Prim.Native.Nat.{ℕ, zero, suc, _+_, _≤_}
 use native.Mathlib.Nat.{le-refl}
 use native.Mathlib.Omega.{arith}
+use Rattle.xosera.specs.State.{isSet}
 use Rattle.xosera.specs.Adapter.{Adapter}
 use Rattle.xosera.specs.Blitter.{idle, stepped, steps, wordsLeft}
 use Rattle.order.specs.Order.{blitReads, blitWrites}
@@ -26,10 +27,10 @@ pub record Finishes (full : Bool) (a r : Adapter) : Type 0 where
   pub fit-ref : Fit r
   pub side : r .side ≡ a .side
   pub engine : r .engine ≡ idle
-  pub unqueued : r .queued ≡ false
+  pub unqueued : r .queued ≡ 0
   pub vram : r .vram ≡ finished a .vram
   pub status : SameBits (r .status) (a .status)
-  pub alone : full ≡ false → a .queued ≡ false
+  pub alone : full ≡ false → isSet (a .queued) ≡ false
 
 -- The words that pending work reads and writes are among the given ones.
 pub record Within (reads writes : ℕ → Bool) (a : Adapter) : Type 0 where
@@ -43,18 +44,18 @@ pub record OnCourse (full : Bool) (reads writes : ℕ → Bool) (n : ℕ) (a r :
   pub left : wordsLeft a ≤ n
 
 -- What holds of a running engine's step and of an adapter that stays holds of every step.
-by-engine : (a : Adapter) (P : Adapter → Type 0) → (a .engine .running ≡ true → P (stepped a)) → P a → P (stepped a)
-by-engine a P running idling = go (a .engine .running) refl
+by-engine : (a : Adapter) (P : Adapter → Type 0) → (isSet (a .engine .running) ≡ true → P (stepped a)) → P a → P (stepped a)
+by-engine a P running idling = go (isSet (a .engine .running)) refl
   where
-    go : (b : Bool) → a .engine .running ≡ b → P (stepped a)
+    go : (b : Bool) → isSet (a .engine .running) ≡ b → P (stepped a)
     go true on = running on
     go false off = rw (stepped-idle a off) idling
 
-pub stepped-unqueued : (a : Adapter) → a .queued ≡ false → stepped a .queued ≡ false
-stepped-unqueued a q = step-cases (λ (b : Adapter). b .queued ≡ false) a (λ _. q) (λ _ _. refl) (λ _ _. q)
+pub stepped-unqueued : (a : Adapter) → isSet (a .queued) ≡ false → isSet (stepped a .queued) ≡ false
+stepped-unqueued a q = step-cases (λ (b : Adapter). isSet (b .queued) ≡ false) a (λ _. q) (λ _ _. refl) (λ _ _. q)
 
 module _ (a : Adapter) (fit : Fit a) where
-  left-running : a .engine .running ≡ true → wordsLeft a ≡ suc (wordsLeft (stepped a))
+  left-running : isSet (a .engine .running) ≡ true → wordsLeft a ≡ suc (wordsLeft (stepped a))
   left-running = stepped-left a (fit-range a fit)
 
   finished-stepped : finished (stepped a) ≡ finished a
@@ -105,10 +106,10 @@ on-course-steps n m a r h =
 
 -- Pending work that is all done: nothing runs and nothing is queued.
 module _ (a : Adapter) (fit : Fit a) where
-  finished-off : finished a .engine .running ≡ false
+  finished-off : isSet (finished a .engine .running) ≡ false
   finished-off = over-after (wordsLeft a) a (fit-range a fit) (le-refl (wordsLeft a))
 
-  pub finishes : {full : Bool} → (full ≡ false → a .queued ≡ false) → Finishes full a (finished a)
+  pub finishes : {full : Bool} → (full ≡ false → isSet (a .queued) ≡ false) → Finishes full a (finished a)
   finishes alone =
       let fit' : Fit (finished a) = fit-steps (wordsLeft a) a fit in
       record {

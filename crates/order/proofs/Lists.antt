@@ -5,6 +5,7 @@ use mathlib.Core.Bool.{Bool, false}
 use mathlib.Core.List.{List, [], _∷_}
 use Prim.Native.Nat.{ℕ, suc, _+_, _≤_}
 use native.Mathlib.Numerals.{one-add}
+use Rattle.xosera.specs.State.{isSet}
 use Rattle.xosera.specs.Adapter.{Adapter}
 use Rattle.xosera.specs.Blitter.{steps, wordsLeft}
 use Rattle.xosera.specs.Events.{Call, Event, call, step, run}
@@ -24,7 +25,7 @@ use Rattle.order.proofs.Answers.{value-alike}
 none-left : {full : Bool} (a r : Adapter) → Finishes full a r → wordsLeft a ≤ 0 → butBit6 a ≡ butBit6 r
 unfolding butBit6 steps
 none-left a r f none =
-    let off : a .engine .running ≡ false = over-after 0 a (fit-range a (f .fit)) none in
+    let off : isSet (a .engine .running) ≡ false = over-after 0 a (fit-range a (f .fit)) none in
     λ i. record {
       side = sym (f .side) i;
       status = without-alike (a .status) (r .status) (fit-status a (f .fit)) (fit-status r (f .fit-ref)) (sym (f .status)) i;
@@ -61,5 +62,6 @@ module _ {full : Bool} {reads writes : ℕ → Bool} where
       let rest : AlikeBut full (after a step) es r (withoutSteps es) = in-any-order es (after a step) r (step-on-course (stepsIn es) a r h) apart patient in
       record { ends = rest .ends; answer-alike = rest .answer-alike }
   in-any-order (run n ∷ es) a r h apart patient =
-      let rest : AlikeBut full (after a (run n)) es r (withoutSteps es) = in-any-order es (after a (run n)) r (run-on-course n (stepsIn es) a r h) apart patient in
+      let rest : AlikeBut full (after a (run n)) es r (withoutSteps es) =
+      in-any-order es (after a (run n)) r (run-on-course n (stepsIn es) a r h) apart patient in
       record { ends = rest .ends; answer-alike = rest .answer-alike }

@@ -4,6 +4,7 @@ use mathlib.Core.Bool.{Bool}
 use mathlib.Core.List.{List, _++_}
 use Prim.Native.Nat.{ℕ, zero, suc}
 use lib.ListN.{replicate}
+use Rattle.xosera.specs.State.{isSet}
 use Rattle.xosera.specs.Adapter.{Adapter}
 use Rattle.xosera.specs.Blitter.{stepped, steps, wordsLeft}
 use Rattle.xosera.specs.Events.{Event, step}
@@ -32,7 +33,7 @@ pub order-of-work : OrderOfWork
 unfolding blitFirst
 order-of-work a es fit enough apart patient =
     let n : ℕ = wordsLeft a in
-    let alike : AlikeBut (a .queued) a es (finished a) (withoutSteps es) =
+    let alike : AlikeBut (isSet (a .queued)) a es (finished a) (withoutSteps es) =
     in-any-order es a (finished a) (record {
       finishes = finishes a fit (λ q. q);
       within = record { unread = λ w h. h; unwritten = λ w h. h };
@@ -40,5 +41,5 @@ order-of-work a es fit enough apart patient =
     }) apart patient in
     record {
       ends = alike .ends ∙ ap butBit6 (sym (ends-after-steps n a (withoutSteps es) fit));
-      answer-alike = alike .answer-alike ∙ sym (answers-after-steps (a .queued) n a (withoutSteps es) fit);
+      answer-alike = alike .answer-alike ∙ sym (answers-after-steps (isSet (a .queued)) n a (withoutSteps es) fit);
     }

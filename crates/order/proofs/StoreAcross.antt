@@ -5,6 +5,7 @@ use mathlib.Core.Bool.{Bool, true, false, cond, not, _||_}
 use mathlib.Core.List.{List}
 use Prim.Native.Nat.{ℕ, zero, suc, _%_}
 use borrow.Author.Tests.{eq-eqb}
+use Rattle.xosera.specs.State.{isSet}
 use Rattle.xosera.specs.Words.{shifted}
 use Rattle.xosera.specs.Memories.{place, word, Store, stored}
 use Rattle.xosera.specs.Adapter.{Adapter}
@@ -52,7 +53,7 @@ module _ (k : Store) (e : Engine) (v : List ℕ) (unfetched : Unfetched k e v) w
 pub record Beside (k : Store) (a b : Adapter) : Type 0 where
   pub engine : b .engine ≡ a .engine
   pub queued : b .queued ≡ a .queued
-  pub waiting : a .queued ≡ true → b .side .blit ≡ a .side .blit
+  pub waiting : isSet (a .queued) ≡ true → b .side .blit ≡ a .side .blit
   pub vram : b .vram ≡ stored k (a .vram)
 
 -- The next step reads and writes no word that the store touches.
@@ -65,15 +66,15 @@ unfolding succeeding
 succeeding-same true r s h = ap launched (h refl)
 succeeding-same false r s h = refl
 
-still-queued : (last q : Bool) → cond last false q ≡ true → q ≡ true
+still-queued : (last : Bool) (q : ℕ) → isSet (cond last 0 q) ≡ true → isSet q ≡ true
 still-queued true q h = absurd (clash h refl)
 still-queued false q h = h
 
 module _ (k : Store) (a b : Adapter) (beside : Beside k a b) (free : Free k a) where
-  runs-alike : b .engine .running ≡ a .engine .running
-  runs-alike = ap (λ (e : Engine). e .running) (beside .engine)
+  runs-alike : isSet (b .engine .running) ≡ isSet (a .engine .running)
+  runs-alike = ap (λ (e : Engine). isSet (e .running)) (beside .engine)
 
-  module _ (on : a .engine .running ≡ true) where
+  module _ (on : isSet (a .engine .running) ≡ true) where
     unfetched : Unfetched k (a .engine) (a .vram)
     unfolding readsNow
     unfetched varies =
@@ -85,22 +86,23 @@ module _ (k : Store) (a b : Adapter) (beside : Beside k a b) (free : Free k a) w
 
     across-running : Beside k (stepped a) (stepped b)
     across-running =
-        let on' : b .engine .running ≡ true = runs-alike ∙ on in
-        let launch : succeeding (a .queued) (b .side .blit) ≡ succeeding (a .queued) (a .side .blit) =
-        succeeding-same (a .queued) (a .side .blit) (b .side .blit) (beside .waiting) in
+        let on' : isSet (b .engine .running) ≡ true = runs-alike ∙ on in
+        let launch : succeeding (isSet (a .queued)) (b .side .blit) ≡ succeeding (isSet (a .queued)) (a .side .blit) =
+        succeeding-same (isSet (a .queued)) (a .side .blit) (b .side .blit) (beside .waiting) in
         record {
           engine = cc (stepped-engine a on, stepped-engine b on', beside .engine, beside .queued, beside .vram, next-same k (a .engine) (a .vram) unfetched);
           queued = cc (stepped-queued a on, stepped-queued b on', beside .engine, beside .queued);
           waiting = λ q.
-              rw (stepped-side a, stepped-side b) (beside .waiting (still-queued (lastStep (a .engine)) (a .queued) (sym (stepped-queued a on) ∙ q)));
+              rw (stepped-side a, stepped-side b)
+              (beside .waiting (still-queued (lastStep (a .engine)) (a .queued) (ap isSet (sym (stepped-queued a on)) ∙ q)));
           vram = cc (stepped-vram a on, stepped-vram b on', beside .engine, beside .vram, drawn-across k (a .engine) (a .vram) unfetched separate);
         }
 
   -- One step keeps a store beside the blit, and reads and writes the same words.
   across-step : Beside k (stepped a) (stepped b)
-  across-step = go (a .engine .running) refl
+  across-step = go (isSet (a .engine .running)) refl
     where
-      go : (r : Bool) → a .engine .running ≡ r → Beside k (stepped a) (stepped b)
+      go : (r : Bool) → isSet (a .engine .running) ≡ r → Beside k (stepped a) (stepped b)
       go true on = across-running on
       go false off = rw (stepped-idle a off, stepped-idle b (runs-alike ∙ off)) beside
 
@@ -110,9 +112,9 @@ module _ (k : Store) (a b : Adapter) (beside : Beside k a b) (free : Free k a) w
 
   writes-now-same : (w : ℕ) → writesNow b w ≡ writesNow a w
   unfolding writesNow
-  writes-now-same w = go (a .engine .running) refl
+  writes-now-same w = go (isSet (a .engine .running)) refl
     where
-      go : (r : Bool) → a .engine .running ≡ r → writesNow b w ≡ writesNow a w
+      go : (r : Bool) → isSet (a .engine .running) ≡ r → writesNow b w ≡ writesNow a w
       go true on = cc (beside .engine, beside .vram, stored-place k (a .vram) (a .engine .regs .dstd), drawing-same k (a .engine) (a .vram) (unfetched on))
       go false off = cc (off, runs-alike)
 

@@ -8,9 +8,11 @@ use Rattle.xosera.specs.XrSpace.{within, isBlitRegister, playfieldRead, registe
 use Rattle.xosera.specs.HostBytes.{wordOf, latched, xrLoaded, vramLoad, writeWord, writeByte, shown, highByte, lowByte, timerSaved, readByte}
 use Rattle.xosera.specs.TimerTick as TimerTick
 use Rattle.xosera.specs.TimerTick.{expires, counted, ticked}
-use Rattle.xosera.specs.Blitter.{launched, isConstant, fetched, sourced, firstMask, lastWord, lastMask, testMask, writeMask, drawing, drawn, lastStep, nextSource, nextDest, nextKept, next, succeeding, stepped, steps, blitWords, engineLeft, wordsLeft}
+use Rattle.xosera.specs.Blitter.{launched, isConstant, fetched, sourced, firstMask, lastWord, lastMask, testMask, writeMask, drawing, drawn, lastStep}
+use Rattle.xosera.specs.Blitter.{nextSource, nextDest, nextKept, next, succeeding, stepped, steps, blitWords, engineLeft, wordsLeft}
 use Rattle.xosera.specs.Events.{tick, frameEnd}
-use Rattle.xosera.specs.Refusals.{timerInRange, hostInRange, runningInRange, isNoRegs, idleInRange, engineInRange, inRange, badVram, badXr, badState, badRegister, blitterFull, reconfigures, applying, lowest, refusal}
+use Rattle.xosera.specs.Refusals.{timerInRange, areBytes, hostInRange, runningInRange, isNoRegs, idleInRange, engineInRange, inRange}
+use Rattle.xosera.specs.Refusals.{badVram, badXr, badState, badRegister, blitterFull, reconfigures, tests, first, refusal}
 use Rattle.xosera.specs.Calls.{actOf, vramLoaded, startedEngine, perform, done, after, lineUp, given, answer}
 use Rattle.xosera.specs.Sequences.{wordsOf, afterAll}
 use Rattle.order.specs.Order.{stepsIn, readsNow, writesNow, blitReads, blitWrites, accepted, callWrites, callLoads, callStarts}
@@ -19,7 +21,16 @@ use Rattle.order.specs.Witness.{begun, between, Witness, queuedUp, Queue
 use Rattle.order.proofs.ApartTest.{apartTest, allApartTest, all-apart-tested, allPatientTest, all-patient-tested}
 
 computed : Witness × QueuedWitness
-unfolding apartTest allApartTest allPatientTest callTries callWrites callLoads callStarts accepted stepsIn blitReads blitWrites readsNow writesNow wordsOf wrap bit nibble chosen merged shifted combined isColour colourMask isVramLength isXrLength place word stored changed within isBlitRegister playfieldRead registerRead xrRead put videoWrite blitWrite xrMemoryWrite xrWrite wordOf latched xrLoaded vramLoad writeWord writeByte shown highByte lowByte timerSaved readByte expires counted ticked TimerTick.tick TimerTick.frameEnd launched isConstant fetched sourced firstMask lastWord lastMask testMask writeMask drawing drawn lastStep nextSource nextDest nextKept next succeeding stepped steps blitWords engineLeft wordsLeft timerInRange hostInRange runningInRange isNoRegs idleInRange engineInRange inRange badVram badXr badState badRegister blitterFull reconfigures applying lowest refusal actOf vramLoaded startedEngine perform done after lineUp given answer afterAll
+unfolding apartTest allApartTest allPatientTest callTries callWrites callLoads callStarts accepted stepsIn blitReads blitWrites readsNow writesNow wordsOf
+    wrap bit nibble chosen merged shifted combined isColour colourMask isVramLength isXrLength place word stored changed
+    within isBlitRegister playfieldRead registerRead xrRead put videoWrite blitWrite xrMemoryWrite xrWrite
+    wordOf latched xrLoaded vramLoad writeWord writeByte shown highByte lowByte timerSaved readByte
+    expires counted ticked TimerTick.tick TimerTick.frameEnd
+    launched isConstant fetched sourced firstMask lastWord lastMask testMask writeMask drawing drawn lastStep
+    nextSource nextDest nextKept next succeeding stepped steps blitWords engineLeft wordsLeft
+    timerInRange areBytes hostInRange runningInRange isNoRegs idleInRange engineInRange inRange
+    badVram badXr badState badRegister blitterFull reconfigures tests first refusal
+    actOf vramLoaded startedEngine perform done after lineUp given answer afterAll
 computed = (
   record {
     starts = record { accepted = refl; words = refl; idle = refl };

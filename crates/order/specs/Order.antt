@@ -5,6 +5,7 @@ use mathlib.Core.List.{List, [], _∷_, _++_}
 use Prim.Native.Nat.{ℕ, zero, suc, _+_, _≤_}
 use lib.Dec.{eqb}
 use lib.ListN.{getD, replicate}
+use Rattle.xosera.specs.State.{isSet}
 use Rattle.xosera.specs.Words.{wrap, withoutBit}
 use Rattle.xosera.specs.Memories.{place}
 use Rattle.xosera.specs.Adapter.{Adapter}
@@ -31,11 +32,11 @@ withoutSteps (run n ∷ es) = withoutSteps es
 
 -- Whether the next blit step takes a VRAM word as source; with a constant it reads none.
 unfoldable pub readsNow : Adapter → ℕ → Bool
-readsNow a w = a .engine .running && not (isConstant (a .engine)) && eqb (place (a .vram) (a .engine .regs .srcs)) w
+readsNow a w = isSet (a .engine .running) && not (isConstant (a .engine)) && eqb (place (a .vram) (a .engine .regs .srcs)) w
 
 -- Whether the next blit step writes a nibble of a VRAM word, also with the value it had.
 unfoldable pub writesNow : Adapter → ℕ → Bool
-writesNow a w = a .engine .running && not (eqb (drawing (a .engine) (a .vram) .mask) 0) && eqb (place (a .vram) (a .engine .regs .dstd)) w
+writesNow a w = isSet (a .engine .running) && not (eqb (drawing (a .engine) (a .vram) .mask) 0) && eqb (place (a .vram) (a .engine .regs .dstd)) w
 
 -- The words that a blit reads, and those that it writes, found by doing n steps alone. Words are told apart by their
 -- address modulo the VRAM length.

@@ -46,7 +46,7 @@ queuedUp = afterAll begun (setXr 0x46 0x40 ++ setXr 0x49 1)
 
 pub record QueuedWitness : Type 0 where
   pub fit : Fit queuedUp
-  pub full : queuedUp .queued ≡ true
+  pub full : queuedUp .queued ≡ 1
   pub enough : wordsLeft queuedUp ≤ stepsIn between
   pub apart : AllApart (blitReads (wordsLeft queuedUp) queuedUp) (blitWrites (wordsLeft queuedUp) queuedUp) queuedUp between
   pub patient : AllPatient queuedUp between

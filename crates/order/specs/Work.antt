@@ -5,6 +5,7 @@ use mathlib.Core.Bool.{Bool, true, false, cond}
 use mathlib.Core.List.{List, [], _∷_}
 use Prim.Native.Nat.{ℕ, _≤_}
 use lib.Dec.{eqb}
+use Rattle.xosera.specs.State.{isSet}
 use Rattle.xosera.specs.Words.{withoutBit}
 use Rattle.xosera.specs.Adapter.{Adapter}
 use Rattle.xosera.specs.Blitter.{wordsLeft}
@@ -71,4 +72,4 @@ OrderOfWork =
     wordsLeft a ≤ stepsIn es →
     AllApart (blitReads (wordsLeft a) a) (blitWrites (wordsLeft a) a) a es →
     AllPatient a es →
-    AlikeBut (a .queued) a es a (blitFirst (wordsLeft a) es)
+    AlikeBut (isSet (a .queued)) a es a (blitFirst (wordsLeft a) es)
