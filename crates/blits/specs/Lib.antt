@@ -1,2 +1,0 @@
--- What the functions that step and run the blitter mean.
-pub mod Work

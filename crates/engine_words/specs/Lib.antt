@@ -1,0 +1,2 @@
+-- The state with another engine.
+pub mod Held

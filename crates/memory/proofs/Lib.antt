@@ -1,3 +1,0 @@
--- Laws of the memories that belong to no one function.
-pub mod Lengths
-pub mod Stores

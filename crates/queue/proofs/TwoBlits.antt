@@ -1,0 +1,61 @@
+-- The running blit and the queued one: two runs of one blit do all the steps that there are.
+use mathlib.Core.Path.{_≡_, refl, sym, ap, _∙_}
+use mathlib.Core.Bool.{Bool, true, false}
+use mathlib.Core.List.{List}
+use Prim.Native.Nat.{ℕ, zero, suc, _+_, _-_, _≤_, min}
+use native.Mathlib.Omega.{arith}
+use native.Mathlib.Decide.{ℕ-discrete}
+use Rattle.xosera.specs.State.{State, isSet}
+use Rattle.xosera.specs.Adapter.{Adapter, adapter}
+use Rattle.xosera.specs.Blitter.{steps, engineLeft, wordsLeft}
+use Rattle.xosera.proofs.EngineLaws.{idle-left}
+use Rattle.xosera.proofs.StepLaws.{steps-idle}
+use Rattle.queue.specs.Work.{Ready, OneBlit}
+use Rattle.queue.proofs.OneBlit.{idle-unqueued}
+
+-- An idle state has no words left.
+pub none-left : (s : State) (v x : List ℕ) → Ready s → isSet (s .engine .running) ≡ false → wordsLeft (adapter s v x) ≡ 0
+unfolding wordsLeft
+none-left s v x r h = rw (idle-left (s .engine) h, idle-unqueued s r h)
+
+-- With no steps left over a second run has nothing to do.
+pub none-over : {s : State} {v : List ℕ} {n : ℕ} {t : State} {u : List ℕ} {k : ℕ} → OneBlit s v n t u k → k ≡ 0 → OneBlit t u k t u k
+none-over one z = record {
+  reached = λ x. refl;
+  words-left = λ x. refl;
+  fewer = omega arith;
+  ready = one .ready;
+  vram-length = refl;
+  unqueued = λ h. absurd (h z);
+  idle = λ h _. absurd (h z);
+}
+
+module _ {s : State} {v : List ℕ} {n : ℕ} {t : State} {u : List ℕ} {k : ℕ} {f : State} {w : List ℕ} {l : ℕ}
+    (one : OneBlit s v n t u k) (two : OneBlit t u k f w l) (x : List ℕ) where
+  -- If steps are left over, the engine is idle.
+  over : (l ≡ 0 → ⊥) → isSet (f .engine .running) ≡ false
+  over h = two .idle h (one .unqueued (λ z. h (none z)))
+    where
+      none : k ≡ 0 → l ≡ 0
+      none z = omega (arith, two .fewer)
+
+  pub run-reached : adapter f w x ≡ steps n (adapter s v x)
+  unfolding steps
+  run-reached = rest (ℕ-discrete l 0) ∙ two .reached x ∙ one .reached x
+    where
+      rest : Dec (l ≡ 0) → adapter f w x ≡ steps l (adapter f w x)
+      rest (yes z) = rw z
+      rest (no h) = sym (steps-idle l (adapter f w x) (over h))
+
+  pub run-fewer : l ≤ n
+  run-fewer = omega (arith, one .fewer, two .fewer)
+
+  pub run-count : n - l ≡ min n (wordsLeft (adapter s v x))
+  run-count = count (ℕ-discrete l 0)
+    where
+      total : wordsLeft (adapter s v x) + l ≡ wordsLeft (adapter f w x) + n
+      total = omega (arith, one .words-left x, two .words-left x)
+
+      count : Dec (l ≡ 0) → n - l ≡ min n (wordsLeft (adapter s v x))
+      count (yes z) = omega (arith, total)
+      count (no h) = omega (arith, total, none-left f w x (two .ready) (over h), one .fewer, two .fewer)

@@ -1,0 +1,118 @@
+-- Nothing, the last word of a blit, or another of its words.
+use mathlib.Core.Path.{sym, ap, _∙_}
+use borrow.Author.Tests.{eq-eqb}
+use Rattle.xosera.specs.State.{stateAt}
+use Rattle.xosera.specs.Refusals.{engineInRange}
+use Rattle.queue.proofs.OneStep.{running, idle, step-idle, step-ends, step-goes-on, counts-none, counts-one}
+use borrow.Author.Needs.{needs}
+use Rattle.queue.proofs.step.Statement.{statement}
+use Rattle.queue.proofs.step.Tie as tie
+
+engine-of-requires : tie.Need-engine-of-requires
+engine-of-requires c κs = search needs
+
+same-length : tie.Need-same-length
+same-length c = search needs
+
+returns : tie.Need-returns
+returns c =
+    let at-engine-of = c .before .before in
+    let start = at-engine-of .before .before .before .before in
+    let s = stateAt (start .args .s .now) in
+    let v = start .args .vram .now in
+    let off = idle s v (at-engine-of .engine-of .ensures) (c .if1 .taken) in
+    (step-idle s v (at-engine-of .engine-of .ensures) off, λ x. counts-none s v x (start .pre .1 .1) off)
+
+draw-requires : tie.Need-draw-requires
+draw-requires c κs = search needs
+
+last-step-requires : tie.Need-last-step-requires
+last-step-requires c κs = search needs
+
+end-blit-requires : tie.Need-end-blit-requires
+end-blit-requires c κs = search needs
+
+same-length-2 : tie.Need-same-length-2
+same-length-2 c = search needs
+
+same-length-3 : tie.Need-same-length-3
+same-length-3 c = search needs
+
+returns-2 : tie.Need-returns-2
+returns-2 c =
+    let at-end-blit = c .before .before in
+    let at-if2 = at-end-blit .before .before in
+    let at-last-step = at-if2 .before in
+    let at-draw = at-last-step .before .before .before in
+    let at-if1 = at-draw .before .before in
+    let at-engine-of = at-if1 .before .before in
+    let start = at-engine-of .before .before .before .before in
+    let s = stateAt (start .args .s .now) in
+    let v = start .args .vram .now in
+    let here = at-engine-of .engine-of .ensures in
+    let on = running s v here (at-if1 .if1 .left) in (
+      step-ends s v here on (sym (at-last-step .last-step .ensures) ∙ at-if2 .if2 .taken) (at-draw .draw .ensures .1)
+          (at-end-blit .end-blit .ensures),
+      λ x. counts-one s v x (start .pre .1 .1) on,
+    )
+
+advance-requires : tie.Need-advance-requires
+advance-requires c κs =
+    let at-if2 = c .before in
+    let at-last-step = at-if2 .before in
+    let at-if1 = at-last-step .before .before .before .before .before in
+    let at-engine-of = at-if1 .before .before in
+    let start = at-engine-of .before .before .before .before in
+    let s = stateAt (start .args .s .now) in
+    let here = at-engine-of .engine-of .ensures in (
+      record { running = eq-eqb _ 1 (at-if1 .if1 .left); in-range = ap engineInRange here ∙ start .pre .1 .1 .engine },
+      sym
+          (at-last-step .last-step .ensures) ∙ at-if2 .if2 .left,
+    )
+
+move-on-requires : tie.Need-move-on-requires
+move-on-requires c κs = search needs
+
+same-length-4 : tie.Need-same-length-4
+same-length-4 c = search needs
+
+same-length-5 : tie.Need-same-length-5
+same-length-5 c = search needs
+
+returns-3 : tie.Need-returns-3
+returns-3 c =
+    let at-move-on = c .before .before in
+    let at-advance = at-move-on .before in
+    let at-if2 = at-advance .before .before in
+    let at-last-step = at-if2 .before in
+    let at-draw = at-last-step .before .before .before in
+    let at-if1 = at-draw .before .before in
+    let at-engine-of = at-if1 .before .before in
+    let start = at-engine-of .before .before .before .before in
+    let s = stateAt (start .args .s .now) in
+    let v = start .args .vram .now in
+    let here = at-engine-of .engine-of .ensures in
+    let on = running s v here (at-if1 .if1 .left) in (
+      step-goes-on s v here on (sym (at-last-step .last-step .ensures) ∙ at-if2 .if2 .left) (at-draw .draw .ensures .0) (at-draw .draw .ensures .1)
+          (at-advance .advance .ensures) (at-move-on .move-on .ensures),
+      λ x. counts-one s v x (start .pre .1 .1) on,
+    )
+
+pub step-spec : {M : Type 1} → statement M
+step-spec =
+    tie.close
+    (tie.spec
+    engine-of-requires
+    same-length
+    returns
+    draw-requires
+    last-step-requires
+    end-blit-requires
+    same-length-2
+    same-length-3
+    returns-2
+    advance-requires
+    move-on-requires
+    same-length-4
+    same-length-5
+    returns-3)

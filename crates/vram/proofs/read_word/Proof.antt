@@ -1,0 +1,22 @@
+-- The word at the place of the address.
+use mathlib.Core.Path.{_≡_, refl, sym, _∙_}
+use Rattle.xosera.specs.Memories.{place, word}
+use borrow.Author.Needs.{needs}
+use Rattle.vram.proofs.read_word.Statement.{statement}
+use Rattle.vram.proofs.read_word.Tie as tie
+
+place-requires : tie.Need-place-requires
+place-requires c κs = search needs
+
+mul-result : tie.Need-mul-result
+mul-result c = search needs
+
+shared-slice-read-result : tie.Need-shared-slice-read-result
+shared-slice-read-result c = search needs
+
+returns : tie.Need-returns
+unfolding word place
+returns c = rw (c .before .place .ensures .0)
+
+pub read-word-spec : {M : Type 1} → statement M
+read-word-spec = tie.close (tie.spec place-requires mul-result shared-slice-read-result returns)
