@@ -1,2 +1,2 @@
 -- Laws of accesses that belong to no one function.
-pub mod Acts
+pub mod Past

@@ -1,60 +1,103 @@
 -- By the tests and the arm that was taken.
+use borrow.Author.Tests.{not-true, not-false, ne-eqb}
 use Rattle.xosera.specs.Memories.{stored}
 use Rattle.xosera.specs.Adapter.{changed}
-use Rattle.xosera.specs.Calls.{perform}
-use borrow.Author.Tests.{not-true, not-false, eq-eqb, ne-eqb}
 use Rattle.xosera.specs.HostBytes.{readByte}
+use Rattle.xosera.specs.Calls.{perform}
 use borrow.Author.Needs.{needs}
 use Rattle.access.proofs.read.Statement.{statement}
 use Rattle.access.proofs.read.Tie as tie
+use Rattle.xr_port.proofs.read.Reads as read-reads′
 
-save-timer-requires : tie.Need-save-timer-requires
-save-timer-requires c κs = search needs
+save-requires : tie.Need-save-requires
+save-requires c κs = search needs
+
+same-length : tie.Need-same-length
+same-length c = search needs
 
 returns : tie.Need-returns
-unfolding readByte
-returns c = rw (not-true (c .before .before .before .before .before .args .odd) (c .before .before .if1 .taken), c .before .if2 .taken) (c .save-timer .ensures (c .before .before .before .before .before .args .vram .now) (c .before .before .before .before .before .args .xr .now))
+returns c =
+    let at-save = c .before .before in
+    let at-if2 = at-save .before .before in
+    let at-if1 = at-if2 .before in
+    let start = at-if1 .before .before .before .before in
+    rw (not-true (start .args .odd) (at-if1 .if1 .taken), at-if2 .if2 .taken) (at-save .save .ensures (start .args .vram .now) (start .args .xr .now))
 
 returns-2 : tie.Need-returns-2
 unfolding readByte perform changed stored
-returns-2 c = rw (not-true (c .before .before .before .before .args .odd) (c .before .if1 .taken), ne-eqb _ _ (c .if2 .left))
+returns-2 c =
+    let at-if1 = c .before in
+    let start = at-if1 .before .before .before .before in
+    rw (not-true (start .args .odd) (at-if1 .if1 .taken), ne-eqb _ 2 (c .if2 .left))
 
-read-xdata-requires : tie.Need-read-xdata-requires
-read-xdata-requires c κs = search needs
+read-requires : tie.Need-read-requires
+read-requires c κs = search needs
 
-read-data-requires : tie.Need-read-data-requires
-read-data-requires c κs = search needs
+read-requires-2 : tie.Need-read-requires-2
+read-requires-2 c κs = search needs
 
-read-data-requires-2 : tie.Need-read-data-requires-2
-read-data-requires-2 c κs = search needs
+read-requires-3 : tie.Need-read-requires-3
+read-requires-3 c κs = search needs
+
+same-length-2 : tie.Need-same-length-2
+same-length-2 c = search needs
 
 returns-3 : tie.Need-returns-3
 unfolding readByte
-returns-3 c = rw (not-false (c .before .before .before .before .before .args .odd) (c .before .before .if1 .left), c .before .match .keys1) (c .read-xdata .ensures (c .before .before .before .before .before .args .vram .now))
+returns-3 c =
+    let at-read = c .before .before in
+    let at-match = at-read .before .before in
+    let at-if1 = at-match .before in
+    let start = at-if1 .before .before .before .before in
+    rw (not-false (start .args .odd) (at-if1 .if1 .left), at-match .match .keys1) (at-read .read .ensures (start .args .vram .now))
+
+same-length-3 : tie.Need-same-length-3
+same-length-3 c = search needs
 
 returns-4 : tie.Need-returns-4
 unfolding readByte
-returns-4 c = rw (not-false (c .before .before .before .before .before .args .odd) (c .before .before .if1 .left), c .before .match .keys2) (c .read-data .ensures (c .before .before .before .before .before .args .xr .now))
+returns-4 c =
+    let at-read2 = c .before .before in
+    let at-match = at-read2 .before .before in
+    let at-if1 = at-match .before in
+    let start = at-if1 .before .before .before .before in
+    rw (not-false (start .args .odd) (at-if1 .if1 .left), at-match .match .keys2) (at-read2 .read2 .ensures (start .args .xr .now))
+
+same-length-4 : tie.Need-same-length-4
+same-length-4 c = search needs
 
 returns-5 : tie.Need-returns-5
 unfolding readByte
-returns-5 c = rw (not-false (c .before .before .before .before .before .args .odd) (c .before .before .if1 .left), c .before .match .keys3) (c .read-data2 .ensures (c .before .before .before .before .before .args .xr .now))
+returns-5 c =
+    let at-read3 = c .before .before in
+    let at-match = at-read3 .before .before in
+    let at-if1 = at-match .before in
+    let start = at-if1 .before .before .before .before in
+    rw (not-false (start .args .odd) (at-if1 .if1 .left), at-match .match .keys3) (at-read3 .read3 .ensures (start .args .xr .now))
 
 returns-6 : tie.Need-returns-6
 unfolding readByte perform changed stored
-returns-6 c = rw (not-false (c .before .before .before .before .args .odd) (c .before .if1 .left), ne-eqb _ 5 (c .match .rest .0 .0 .1), ne-eqb _ 10 (c .match .rest .0 .1), ne-eqb _ 11 (c .match .rest .1))
+returns-6 c =
+    let at-if1 = c .before in
+    let start = at-if1 .before .before .before .before in
+    let n = c .match .rest in
+    rw (not-false (start .args .odd) (at-if1 .if1 .left), ne-eqb _ 5 (n .0 .0 .1), ne-eqb _ 10 (n .0 .1), ne-eqb _ 11 (n .1))
 
 pub read-spec : {M : Type 1} → statement M
 read-spec =
     tie.close
     (tie.spec
-    save-timer-requires
+    save-requires
+    same-length
     returns
     returns-2
-    read-xdata-requires
-    read-data-requires
-    read-data-requires-2
+    read-requires
+    read-requires-2
+    read-requires-3
+    same-length-2
     returns-3
+    same-length-3
     returns-4
+    same-length-4
     returns-5
     returns-6)

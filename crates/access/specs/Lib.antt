@@ -1,2 +1,0 @@
--- What the functions that carry out an access mean.
-pub mod Performs

@@ -1,0 +1,101 @@
+// What byte reads of the main registers give.
+use xosera::DATA;
+use xosera::INT_MASK;
+use xosera::NIBBLES;
+use xosera::QUEUED;
+use xosera::RD_ADDR;
+use xosera::RD_INCR;
+use xosera::RD_XADDR;
+use xosera::RUNNING;
+use xosera::SAVED;
+use xosera::STATUS;
+use xosera::TIMER;
+use xosera::WR_ADDR;
+use xosera::WR_INCR;
+use xosera::WR_XADDR;
+use xosera::XDATA;
+ghost use mathlib.Core.Path.{_≡_};
+ghost use mathlib.Core.Bool.{true, cond};
+ghost use mathlib.Core.List.{List};
+ghost use Prim.Native.Nat.{ℕ, _+_};
+ghost use lib.ListN.{length};
+ghost use Rattle.xosera.specs.State.{isSet, stateAt};
+ghost use Rattle.xosera.specs.Adapter.{adapterAt};
+ghost use Rattle.xosera.specs.HostBytes.{shown, highByte, lowByte};
+ghost use Rattle.xosera.specs.Refusals.{inRange};
+ghost use Rattle.xosera.specs.Events.{read, call};
+ghost use Rattle.xosera.specs.Calls.{given};
+
+// The word that a register shows.
+fn shown(s: &[u16], reg: u8) -> u16
+    requires { ⌜ length (now s) ≡ 75 ⌝ }
+    ensures { λ r. ⌜ r ≡ shown (stateAt (now (s .entry)) .host) reg ⌝ }
+{
+    match reg {
+        3 => s[RD_XADDR],
+        4 => s[WR_XADDR],
+        5 => s[XDATA],
+        6 => s[RD_INCR],
+        7 => s[RD_ADDR],
+        8 => s[WR_INCR],
+        9 => s[WR_ADDR],
+        10 => s[DATA],
+        11 => s[DATA],
+        _ => 0,
+    }
+}
+
+// The blitter's flags in the high byte of XM_SYS_CTRL.
+fn flags(full: u16, busy: u16) -> u8
+    ensures { λ r. ⌜ r ≡ cond (isSet full) 64 0 + cond (isSet busy) 32 0 ⌝ }
+{
+    if full == 1 {
+        if busy == 1 { 96 } else { 64 }
+    } else {
+        if busy == 1 { 32 } else { 0 }
+    }
+}
+
+// The byte of an even read.
+fn high_byte(s: &[u16], reg: u8) -> u8
+    requires { ⌜ length (now s) ≡ 75 ⌝ }
+    requires { ⌜ inRange (stateAt (now s)) ≡ true ⌝ }
+    ensures { λ r. ⌜
+        r ≡ highByte (stateAt (now (s .entry)) .host) (isSet (stateAt (now (s .entry)) .queued))
+        (isSet (stateAt (now (s .entry)) .engine .running)) reg
+        ⌝ }
+{
+    match reg {
+        0 => flags(s[QUEUED], s[RUNNING]),
+        1 => words::low_byte(s[INT_MASK]),
+        2 => words::high_byte(s[TIMER]),
+        _ => words::high_byte(shown(s, reg)),
+    }
+}
+
+// The byte of an odd read.
+fn low_byte(s: &[u16], reg: u8) -> u8
+    requires { ⌜ length (now s) ≡ 75 ⌝ }
+    requires { ⌜ inRange (stateAt (now s)) ≡ true ⌝ }
+    ensures { λ r. ⌜ r ≡ lowByte (stateAt (now (s .entry)) .host) (stateAt (now (s .entry)) .status) reg ⌝ }
+{
+    match reg {
+        0 => words::low_byte(s[NIBBLES]),
+        1 => words::low_byte(s[STATUS]),
+        2 => words::low_byte(s[SAVED]),
+        _ => words::low_byte(shown(s, reg)),
+    }
+}
+
+// The byte of a read.
+pub fn byte_read(s: &[u16], reg: u8, odd: bool) -> u8
+    requires { ⌜ length (now s) ≡ 75 ⌝ }
+    requires { ⌜ inRange (stateAt (now s)) ≡ true ⌝ }
+    ensures { λ r. ⌜ ((v x : List ℕ) → r ≡ given (adapterAt (now (s .entry)) v x) (call (read reg odd))) ⌝ }
+{
+    if odd {
+        low_byte(s, reg)
+    } else {
+        high_byte(s, reg)
+    }
+}

@@ -1,0 +1,2 @@
+-- Laws of the latches that belong to no one function.
+pub mod Latches

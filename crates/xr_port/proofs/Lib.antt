@@ -1,0 +1,2 @@
+-- Laws of XR writes that belong to no one function.
+pub mod Writes

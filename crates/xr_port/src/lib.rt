@@ -1,0 +1,82 @@
+// The XR data port, XM_XDATA: reads through the read buffer, writes anywhere in the XR space.
+use xosera::RD_XADDR;
+use xosera::STATUS;
+use xosera::WR_XADDR;
+use xosera::XDATA;
+use xosera::XrAddr;
+ghost use mathlib.Core.Path.{_≡_};
+ghost use mathlib.Core.List.{List};
+ghost use Prim.Native.Nat.{ℕ, _<_};
+ghost use lib.ListN.{length};
+ghost use Rattle.xosera.specs.Adapter.{Side, quiet};
+ghost use Rattle.xosera.specs.XrSpace.{xrWrite};
+ghost use Rattle.xosera.specs.HostBytes.{xrLoaded, writeXdata, readXdata};
+ghost use Rattle.xosera.specs.Calls.{Performs};
+
+// A write to a register: 0x03 sets status bit 4, 0x49 also starts or queues a blit.
+fn write_register(s: &mut [u16], at: u16, w: u16)
+    requires { ⌜ length (now s) ≡ 75 ⌝ }
+    requires { ⌜ at < 0x4000 ⌝ }
+    ensures { λ _. ⌜ ((v x : List ℕ) → Performs (λ (side : Side). xrWrite side at w) (now (s .entry)) v x (now (s .exit)) v x) ⌝ }
+{
+    if at == 3 {
+        s[STATUS] = s[STATUS] | 16;
+        return;
+    }
+    xr_registers::store_register(s, at, w);
+    if at == 0x49 {
+        queue::start(s);
+    }
+}
+
+// A write anywhere in the XR space.
+fn write_xr(s: &mut [u16], xr: &mut [u16], a: XrAddr, w: u16)
+    requires { ⌜ length (now s) ≡ 75 ⌝ }
+    requires { ⌜ length (now xr) ≡ 6656 ⌝ }
+    ensures { λ _. ⌜
+        ((v : List ℕ) → Performs (λ (side : Side). xrWrite side (a .0) w) (now (s .entry)) v (now (xr .entry)) (now (s .exit)) v
+        (now (xr .exit)))
+        ⌝ }
+{
+    let at = a.0;
+    if at >= 0x4000 {
+        xr_memory::store(xr, a, w);
+        return;
+    }
+    write_register(s, at, w);
+}
+
+// An odd write: a store at XM_WR_XADDR, which goes up by 1.
+pub fn write(s: &mut [u16], xr: &mut [u16], w: u16)
+    requires { ⌜ length (now s) ≡ 75 ⌝ }
+    requires { ⌜ length (now xr) ≡ 6656 ⌝ }
+    ensures { λ _. ⌜ ((v : List ℕ) → Performs (λ (side : Side). writeXdata side w) (now (s .entry)) v (now (xr .entry)) (now (s .exit)) v (now (xr .exit))) ⌝ }
+{
+    let a = XrAddr(s[WR_XADDR]);
+    s[WR_XADDR] = std::num::wrapping_add_u16(a.0, 1);
+    write_xr(s, xr, a, w);
+}
+
+// XM_RD_XADDR set, and the read buffer loaded from there.
+pub fn load(s: &mut [u16], xr: &[u16], a: XrAddr)
+    requires { ⌜ length (now s) ≡ 75 ⌝ }
+    requires { ⌜ length (now xr) ≡ 6656 ⌝ }
+    ensures { λ _. ⌜
+        ((v : List ℕ) → Performs (λ (side : Side). quiet (xrLoaded side (a .0))) (now (s .entry)) v (now (xr .entry))
+        (now (s .exit)) v (now (xr .entry)))
+        ⌝ }
+{
+    let word = xr_registers::xr_read(s, xr, a);
+    s[RD_XADDR] = a.0;
+    s[XDATA] = word;
+}
+
+// An odd read: XM_RD_XADDR goes up by 1 and the buffer is loaded again.
+pub fn read(s: &mut [u16], xr: &[u16])
+    requires { ⌜ length (now s) ≡ 75 ⌝ }
+    requires { ⌜ length (now xr) ≡ 6656 ⌝ }
+    ensures { λ _. ⌜ ((v : List ℕ) → Performs readXdata (now (s .entry)) v (now (xr .entry)) (now (s .exit)) v (now (xr .entry))) ⌝ }
+{
+    let a = XrAddr(std::num::wrapping_add_u16(s[RD_XADDR], 1));
+    load(s, xr, a);
+}
