@@ -1,100 +1,142 @@
-// The ranges of the state, tested field by field.
-use xosera::BlitRegs;
-use xosera::Engine;
-use xosera::Host;
-use xosera::State;
-use xosera::Timer;
+// The ranges of the state. Every call tests them first, so four words are tested at once wherever that can be done.
+use xosera::COUNTDOWN;
+use xosera::ENGINE_CTRL;
+use xosera::ENGINE_DST_D;
+use xosera::ENGINE_LINES;
+use xosera::ENGINE_SRC_S;
+use xosera::ENGINE_WORDS;
+use xosera::INTERVAL;
+use xosera::KEPT;
+use xosera::LATCHES;
+use xosera::LINE;
+use xosera::NIBBLES;
+use xosera::QUEUED;
+use xosera::RUNNING;
+use xosera::SAVED;
+use xosera::WORD;
 ghost use mathlib.Core.Path.{_≡_};
-ghost use mathlib.Core.Bool.{not, _||_};
-ghost use Rattle.xosera.specs.Refusals.{timerInRange, hostInRange, runningInRange, isNoRegs, idleInRange, engineInRange, inRange};
+ghost use mathlib.Core.List.{[], _∷_};
+ghost use Prim.Native.Nat.{_+_, _<_};
+ghost use lib.Dec.{eqb};
+ghost use Rattle.xosera.specs.State.{wordAt, stateAt};
+ghost use Rattle.ranges.specs.Lanes.{Lanes, bitsInRange};
+ghost use Rattle.xosera.specs.Refusals.{timerInRange, areBytes, runningInRange, idleInRange, engineInRange, inRange};
 
-fn timer_in_range(t: Timer) -> bool
-    ensures { λ r. ⌜ r ≡ timerInRange t ⌝ }
+// Four words as one number, the first lowest.
+fn packed(a: u16, b: u16, c: u16, d: u16) -> u64
+    ensures { λ r. ⌜ Lanes a b c d r ⌝ }
 {
-    if t.countdown == 0 {
-        return t.interval == 0;
-    }
-    t.countdown <= t.interval
+    a as u64 + b as u64 * 0x10000 + c as u64 * 0x100000000 + d as u64 * 0x1000000000000
 }
 
-fn host_in_range(h: Host) -> bool
-    ensures { λ r. ⌜ r ≡ hostInRange h ⌝ }
+// Four words that stand together. With the place as a parameter the compiler makes one read of this, and keeps it one
+// where it puts the function into its callers.
+fn four(s: &[u16; 75], k: usize) -> u64
+    requires { ⌜ k < 72 ⌝ }
+    ensures { λ r. ⌜
+        Lanes (wordAt (now (s .entry)) k) (wordAt (now (s .entry)) (k + 1)) (wordAt (now (s .entry)) (k + 2))
+        (wordAt (now (s .entry)) (k + 3)) r
+        ⌝ }
 {
-    if h.vram.nibbles > 15 {
-        return false;
-    }
-    if h.intmask > 127 {
-        return false;
-    }
-    timer_in_range(h.timer)
+    packed(s[k], s[k + 1], s[k + 2], s[k + 3])
 }
 
-fn running_in_range(e: Engine) -> bool
-    ensures { λ r. ⌜ r ≡ runningInRange e ⌝ }
+// Countdown 1 to its interval, or both 0.
+fn timer_in_range(s: &[u16; 75]) -> bool
+    ensures { λ r. ⌜ r ≡ timerInRange (stateAt (now (s .entry)) .host .timer) ⌝ }
 {
-    if e.line > e.regs.lines {
-        return false;
-    }
-    if e.word > e.regs.words {
-        return false;
-    }
-    if e.regs.lines > 32767 {
-        return false;
-    }
-    if e.word != 0 {
+    if s[COUNTDOWN] == s[INTERVAL] {
         return true;
     }
-    e.kept == 0
-}
-
-fn is_no_regs(r: BlitRegs) -> bool
-    ensures { λ b. ⌜ b ≡ isNoRegs r ⌝ }
-{
-    (r.ctrl | r.andc | r.xor | r.mods | r.srcs | r.modd | r.dstd | r.shift | r.lines | r.words) == 0
-}
-
-fn idle_in_range(e: Engine) -> bool
-    ensures { λ r. ⌜ r ≡ idleInRange e ⌝ }
-{
-    if (e.line | e.word | e.kept) != 0 {
+    if s[COUNTDOWN] == 0 {
         return false;
     }
-    is_no_regs(e.regs)
+    s[COUNTDOWN] < s[INTERVAL]
 }
 
-fn engine_in_range(e: Engine) -> bool
-    ensures { λ r. ⌜ r ≡ engineInRange e ⌝ }
+// The high bytes of four words that stand together: none where the words are bytes.
+fn high_bytes(s: &[u16; 75], k: usize) -> u64
+    requires { ⌜ k < 72 ⌝ }
+    ensures { λ r. ⌜
+        eqb r 0 ≡ areBytes (wordAt (now (s .entry)) k ∷ wordAt (now (s .entry)) (k + 1) ∷ wordAt (now (s .entry)) (k + 2)
+        ∷ wordAt (now (s .entry)) (k + 3) ∷ [])
+        ⌝ }
 {
-    if e.running {
-        running_in_range(e)
+    four(s, k) & 0xFF00_FF00_FF00_FF00
+}
+
+// Sixteen latches that are bytes.
+fn latches_in_range(s: &[u16; 75]) -> bool
+    ensures { λ r. ⌜ r ≡ areBytes (stateAt (now (s .entry)) .host .latches) ⌝ }
+{
+    let low = high_bytes(s, LATCHES) | high_bytes(s, LATCHES + 4);
+    let high = high_bytes(s, LATCHES + 8) | high_bytes(s, LATCHES + 12);
+    (low | high) == 0
+}
+
+// The saved byte, the interrupt mask and the status, with the queue's flag between them: none has a bit that it must not
+// have.
+fn bits_in_range(s: &[u16; 75]) -> bool
+    ensures { λ r. ⌜ r ≡ bitsInRange (stateAt (now (s .entry))) ⌝ }
+{
+    four(s, SAVED) & 0xFF80_0000_FF80_FF00 == 0
+}
+
+fn running_in_range(s: &[u16; 75]) -> bool
+    ensures { λ r. ⌜ r ≡ runningInRange (stateAt (now (s .entry)) .engine) ⌝ }
+{
+    if s[LINE] > s[ENGINE_LINES] {
+        return false;
+    }
+    if s[WORD] > s[ENGINE_WORDS] {
+        return false;
+    }
+    if s[ENGINE_LINES] > 32767 {
+        return false;
+    }
+    if s[WORD] != 0 {
+        return true;
+    }
+    s[KEPT] == 0
+}
+
+// The flag and thirteen words that are all 0. Two of them are read twice.
+fn idle_in_range(s: &[u16; 75]) -> bool
+    ensures { λ r. ⌜ r ≡ idleInRange (stateAt (now (s .entry)) .engine) ⌝ }
+{
+    let low = four(s, RUNNING) | four(s, ENGINE_CTRL);
+    let high = four(s, ENGINE_SRC_S) | four(s, ENGINE_DST_D);
+    (low | high) == 0
+}
+
+fn engine_in_range(s: &[u16; 75]) -> bool
+    ensures { λ r. ⌜ r ≡ engineInRange (stateAt (now (s .entry)) .engine) ⌝ }
+{
+    if s[RUNNING] == 1 {
+        running_in_range(s)
     } else {
-        idle_in_range(e)
+        idle_in_range(s)
     }
-}
-
-fn queue_in_range(s: State) -> bool
-    ensures { λ r. ⌜ r ≡ (not (s .queued) || s .engine .running) ⌝ }
-{
-    if s.queued {
-        return s.engine.running;
-    }
-    true
 }
 
 // The whole state within its ranges.
-pub fn in_range(s: State) -> bool
-    ensures { λ r. ⌜ r ≡ inRange s ⌝ }
+pub fn in_range(s: &[u16; 75]) -> bool
+    ensures { λ r. ⌜ r ≡ inRange (stateAt (now (s .entry))) ⌝ }
 {
-    let host = s.host;
-    if !host_in_range(host) {
+    if s[NIBBLES] > 15 {
         return false;
     }
-    if s.status > 127 {
+    if !bits_in_range(s) {
         return false;
     }
-    if !queue_in_range(s) {
+    if !timer_in_range(s) {
         return false;
     }
-    let engine = s.engine;
-    engine_in_range(engine)
+    if !latches_in_range(s) {
+        return false;
+    }
+    if s[QUEUED] > s[RUNNING] {
+        return false;
+    }
+    engine_in_range(s)
 }

@@ -1,22 +1,54 @@
--- Three words are all 0 when their bits put together are; then the registers.
-use mathlib.Core.Path.{sym, _∙_}
-use borrow.Author.Tests.{eq-eqb, ne-eqb}
-use Rattle.xosera.specs.Refusals.{idleInRange}
-use Rattle.ranges.proofs.Tests.{or-none}
+-- Fourteen words are all 0 when their bits put together are.
+use mathlib.Core.Path.{_≡_, _∙_}
+use mathlib.Core.Bool.{Bool, _&&_}
+use mathlib.Core.List.{List}
+use Prim.Native.Nat.{ℕ}
+use lib.Dec.{eqb}
+use Rattle.xosera.specs.State.{wordAt, stateAt}
+use Rattle.xosera.specs.Refusals.{isNoRegs, idleInRange}
+use Rattle.ranges.proofs.Lanes.{lanes-are-none, four-none, grouped}
 use borrow.Author.Needs.{needs}
 use Rattle.ranges.proofs.idle_in_range.Statement.{statement}
 use Rattle.ranges.proofs.idle_in_range.Tie as tie
+use Rattle.ranges.proofs.four.Reads as four-reads
+
+four-requires : tie.Need-four-requires
+four-requires c κs = search needs
+
+four-requires-2 : tie.Need-four-requires-2
+four-requires-2 c κs = search needs
+
+four-requires-3 : tie.Need-four-requires-3
+four-requires-3 c κs = search needs
+
+four-requires-4 : tie.Need-four-requires-4
+four-requires-4 c κs = search needs
+
+-- Whether a word is 0.
+abbrev none : List ℕ → ℕ → Bool
+none ws k = eqb (wordAt ws k) 0
+
+grouped-at : (ws : List ℕ) →
+    (none ws 32 && none ws 33 && none ws 34 && none ws 35) && (none ws 36 && none ws 37 && none ws 38 && none ws 39)
+    && ((none ws 40 && none ws 41 && none ws 42 && none ws 43) && (none ws 42 && none ws 43 && none ws 44 && none ws 45))
+    ≡ none ws 32 && none ws 33 && none ws 34 && none ws 35
+    && (none ws 36 && none ws 37 && none ws 38 && none ws 39 && none ws 40 && none ws 41 && none ws 42 && none ws 43 && none ws 44 && none ws 45)
+grouped-at ws =
+    let e = none ws in
+    grouped (e 32) (e 33) (e 34) (e 35) (e 36) (e 37) (e 38) (e 39) (e 40) (e 41) (e 42) (e 43) (e 44) (e 45)
 
 returns : tie.Need-returns
-unfolding idleInRange
-returns c = rw (simp or-none at (ne-eqb _ _ (c .if1 .taken)))
-
-is-no-regs-requires : tie.Need-is-no-regs-requires
-is-no-regs-requires c κs = search needs
-
-returns-2 : tie.Need-returns-2
-unfolding idleInRange
-returns-2 c = rw (simp or-none at (eq-eqb _ _ (c .before .if1 .left))) (c .is-no-regs .ensures)
+unfolding stateAt idleInRange isNoRegs
+returns c =
+    let at-3 = c .before in
+    let at-2 = at-3 .before in
+    let at-1 = at-2 .before in
+    let words = at-1 .before .args .s .now in
+    four-none (at-1 .four .result) (at-2 .four2 .result) (at-3 .four3 .result) (c .four4 .result) (lanes-are-none _ _ _ _ _ (at-1 .four .ensures))
+    (lanes-are-none _ _ _ _ _ (at-2 .four2 .ensures))
+    (lanes-are-none _ _ _ _ _ (at-3 .four3 .ensures)) (lanes-are-none _ _ _ _ _ (c .four4 .ensures))
+    ∙ grouped-at words
 
 pub idle-in-range-spec : {M : Type 1} → statement M
-idle-in-range-spec = tie.close (tie.spec returns is-no-regs-requires returns-2)
+idle-in-range-spec =
+    tie.close (tie.spec four-requires four-requires-2 four-requires-3 four-requires-4 returns)

@@ -1,28 +1,65 @@
 -- Each answer is the definition's, by the tests on its way.
+use Rattle.xosera.specs.State.{stateAt}
 use Rattle.xosera.specs.Refusals.{runningInRange}
 use Rattle.ranges.proofs.Tests.{tests}
+use borrow.Author.Needs.{needs}
 use Rattle.ranges.proofs.running_in_range.Statement.{statement}
 use Rattle.ranges.proofs.running_in_range.Tie as tie
 
+element-copy-out-if1 : tie.Need-element-copy-out-if1
+element-copy-out-if1 c = search needs
+
+element-copy-out-if1-2 : tie.Need-element-copy-out-if1-2
+element-copy-out-if1-2 c = search needs
+
 returns : tie.Need-returns
-unfolding runningInRange
+unfolding stateAt runningInRange
 returns c = search tests
 
+element-copy-out-if2 : tie.Need-element-copy-out-if2
+element-copy-out-if2 c = search needs
+
+element-copy-out-if2-2 : tie.Need-element-copy-out-if2-2
+element-copy-out-if2-2 c = search needs
+
 returns-2 : tie.Need-returns-2
-unfolding runningInRange
+unfolding stateAt runningInRange
 returns-2 c = search tests
 
+element-copy-out-if3 : tie.Need-element-copy-out-if3
+element-copy-out-if3 c = search needs
+
 returns-3 : tie.Need-returns-3
-unfolding runningInRange
+unfolding stateAt runningInRange
 returns-3 c = search tests
 
+element-copy-out-if4 : tie.Need-element-copy-out-if4
+element-copy-out-if4 c = search needs
+
 returns-4 : tie.Need-returns-4
-unfolding runningInRange
+unfolding stateAt runningInRange
 returns-4 c = search tests
 
+element-copy-out-result : tie.Need-element-copy-out-result
+element-copy-out-result c = search needs
+
 returns-5 : tie.Need-returns-5
-unfolding runningInRange
+unfolding stateAt runningInRange
 returns-5 c = search tests
 
 pub running-in-range-spec : {M : Type 1} → statement M
-running-in-range-spec = tie.close (tie.spec returns returns-2 returns-3 returns-4 returns-5)
+running-in-range-spec =
+    tie.close
+    (tie.spec
+    element-copy-out-if1
+    element-copy-out-if1-2
+    returns
+    element-copy-out-if2
+    element-copy-out-if2-2
+    returns-2
+    element-copy-out-if3
+    returns-3
+    element-copy-out-if4
+    returns-4
+    element-copy-out-result
+    returns-5)

@@ -1,0 +1,2 @@
+-- What several words tested at once amount to.
+pub mod Lanes

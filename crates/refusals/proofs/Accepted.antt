@@ -1,0 +1,60 @@
+-- What a call that is not refused may rely on.
+use mathlib.Core.Path.{_≡_, refl, sym, _∙_}
+use mathlib.Core.Bool.{Bool, true, false, not}
+use mathlib.Core.List.{List, [], _∷_}
+use Prim.Native.Nat.{ℕ, zero, suc, _≤_, _<_}
+use native.Mathlib.Omega.{arith}
+use borrow.Author.Tests.{eqb-true, ltb-true, not-false}
+use lib.Dec.{ltb}
+use lib.ListN.{length, getD}
+use Rattle.xosera.specs.State.{State}
+use Rattle.xosera.specs.Memories.{isVramLength, isXrLength}
+use Rattle.xosera.specs.Adapter.{Adapter, adapter}
+use Rattle.xosera.specs.Events.{Event, write, read, call, step, run}
+use Rattle.xosera.specs.Refusals.{areBytes, inRange, badVram, badXr, badState, badRegister, tests, first, refusal}
+use Rattle.xosera.proofs.Branches.{parts}
+use Rattle.xosera.proofs.RangeLaws.{range-facts, host-facts}
+use Rattle.xosera.proofs.RefusalLaws.{applied, accepted-none}
+use Rattle.refusals.specs.Tested.{lentTests, lentRefusal}
+
+-- Memories of the right lengths and a state in range.
+pub record Lent (s : State) (v x : List ℕ) : Type 0 where
+  pub vram : isVramLength (length v) ≡ true
+  pub xr : length x ≡ 6656
+  pub state : inRange s ≡ true
+
+-- Every one of some bytes is a byte.
+bytes-at : (l : List ℕ) (i : ℕ) → areBytes l ≡ true → getD l i 0 ≤ 255
+unfolding areBytes
+bytes-at [] i h = omega arith
+bytes-at (b ∷ bs) zero h = (simp parts at h) .0
+bytes-at (b ∷ bs) (suc i) h = bytes-at bs i ((simp parts at h) .1)
+
+pub latch-byte : (s : State) (r : ℕ) → inRange s ≡ true → getD (s .host .latches) r 0 ≤ 255
+latch-byte s r h = bytes-at (s .host .latches) r (host-facts (s .host) (range-facts (adapter s [] []) h .host) .latches)
+
+module _ (s : State) (v x : List ℕ) where
+  lent : badVram (adapter s v x) ≡ false → badXr (adapter s v x) ≡ false → badState (adapter s v x) ≡ false → Lent s v x
+  unfolding badVram badXr badState isXrLength
+  lent p q r = record { vram = not-false _ p; xr = eqb-true (length x) 6656 (not-false _ q); state = not-false _ r }
+
+  pub write-lent : (r : ℕ) (odd : Bool) (b : ℕ) → refusal (adapter s v x) (call (write r odd b)) ≡ 0 → Lent s v x × (r < 16)
+  unfolding tests badRegister
+  write-lent r odd b h =
+      let none : (i : ℕ) → applied (tests (adapter s v x) (call (write r odd b))) i ≡ false =
+      λ i. accepted-none (adapter s v x) (call (write r odd b)) i h in
+      (lent (none 0) (none 1) (none 2), ltb-true r 16 (not-false (ltb r 16) (none 3)))
+
+  pub read-lent : (r : ℕ) (odd : Bool) → refusal (adapter s v x) (call (read r odd)) ≡ 0 → Lent s v x
+  unfolding tests
+  read-lent r odd h =
+      let none : (i : ℕ) → applied (tests (adapter s v x) (call (read r odd))) i ≡ false =
+      λ i. accepted-none (adapter s v x) (call (read r odd)) i h in
+      lent (none 0) (none 1) (none 2)
+
+  pub step-lent : refusal (adapter s v x) step ≡ 0 → Lent s v x
+  unfolding tests
+  step-lent h =
+      let none : (i : ℕ) → applied (tests (adapter s v x) step) i ≡ false =
+      λ i. accepted-none (adapter s v x) step i h in
+      lent (none 0) (none 1) (none 2)

@@ -1,0 +1,112 @@
+-- 1 to 3, then 4, then those of an odd write.
+use mathlib.Core.Path.{sym, _∙_}
+use native.Mathlib.Omega.{arith}
+use borrow.Author.Tests.{le-ltb, lt-ltb, not-true, not-false}
+use Rattle.xosera.specs.State.{stateAt}
+use Rattle.xosera.specs.Refusals.{badRegister, blitterFull, reconfigures, first}
+use Rattle.refusals.proofs.Accepted.{latch-byte}
+use Rattle.refusals.proofs.Order.{write-first, write-passed, lent-in-range, lengths-first, lengths-passed}
+use borrow.Author.Needs.{needs}
+use Rattle.refusals.proofs.write_refusal.Statement.{statement}
+use Rattle.refusals.proofs.write_refusal.Tie as tie
+
+lengths-refusal-requires : tie.Need-lengths-refusal-requires
+lengths-refusal-requires c κs = search needs
+
+returns : tie.Need-returns
+returns c =
+    let at-lengths-refusal = c .before in
+    let start = at-lengths-refusal .before in
+    let r = start .args in
+    let s = stateAt (r .s .now) in
+    let lent = lengths-first (r .vram) (r .xr) s (at-lengths-refusal .lengths-refusal .ensures) (c .if1 .taken) in
+    λ v x p q. write-first s v x p q lent (r .reg) (r .odd) (r .byte) (c .if1 .taken)
+
+state-refusal-requires : tie.Need-state-refusal-requires
+state-refusal-requires c κs = search needs
+
+returns-2 : tie.Need-returns-2
+returns-2 c =
+    let at-state-refusal = c .before in
+    let at-if1 = at-state-refusal .before in
+    let at-lengths-refusal = at-if1 .before in
+    let start = at-lengths-refusal .before in
+    let r = start .args in
+    let s = stateAt (r .s .now) in
+    let lent = at-state-refusal .state-refusal .ensures ∙ lengths-passed (r .vram) (r .xr) s (at-lengths-refusal .lengths-refusal .ensures)
+    (at-if1 .if1 .left) in
+    λ v x p q. write-first s v x p q lent (r .reg) (r .odd) (r .byte) (c .if2 .taken)
+
+returns-3 : tie.Need-returns-3
+unfolding first badRegister
+returns-3 c =
+    let at-if2 = c .before in
+    let at-state-refusal = at-if2 .before in
+    let at-if1 = at-state-refusal .before in
+    let at-lengths-refusal = at-if1 .before in
+    let start = at-lengths-refusal .before in
+    let r = start .args in
+    let s = stateAt (r .s .now) in
+    let lent = at-state-refusal .state-refusal .ensures ∙ lengths-passed (r .vram) (r .xr) s (at-lengths-refusal .lengths-refusal .ensures)
+    (at-if1 .if1 .left) in
+    λ v x p q. sym (write-passed s v x p q lent (r .reg) (r .odd) (r .byte) (at-if2 .if2 .left) ∙ rw (le-ltb (r .reg) 16 (c .if3 .taken)))
+
+returns-4 : tie.Need-returns-4
+unfolding first badRegister blitterFull reconfigures
+returns-4 c =
+    let at-if3 = c .before in
+    let at-if2 = at-if3 .before in
+    let at-state-refusal = at-if2 .before in
+    let at-if1 = at-state-refusal .before in
+    let at-lengths-refusal = at-if1 .before in
+    let start = at-lengths-refusal .before in
+    let r = start .args in
+    let s = stateAt (r .s .now) in
+    let lent = at-state-refusal .state-refusal .ensures ∙ lengths-passed (r .vram) (r .xr) s (at-lengths-refusal .lengths-refusal .ensures)
+    (at-if1 .if1 .left) in
+    λ v x p q. sym (write-passed s v x p q lent (r .reg) (r .odd) (r .byte) (at-if2 .if2 .left)
+    ∙ rw (lt-ltb (r .reg) 16 (omega (arith, at-if3 .if3 .left)), not-true (r .odd) (c .if4 .taken)))
+
+odd-refusal-requires : tie.Need-odd-refusal-requires
+odd-refusal-requires c κs =
+    let at-if3 = c .before in
+    let at-if2 = at-if3 .before in
+    let at-state-refusal = at-if2 .before in
+    let at-if1 = at-state-refusal .before in
+    let at-lengths-refusal = at-if1 .before in
+    let start = at-lengths-refusal .before in
+    let r = start .args in
+    let s = stateAt (r .s .now) in
+    let lent = at-state-refusal .state-refusal .ensures ∙ lengths-passed (r .vram) (r .xr) s (at-lengths-refusal .lengths-refusal .ensures)
+    (at-if1 .if1 .left) in
+    (omega (arith, at-if3 .if3 .left), latch-byte s (r .reg) (lent-in-range (r .vram) (r .xr) s (sym lent ∙ at-if2 .if2 .left)))
+
+returns-5 : tie.Need-returns-5
+unfolding first badRegister
+returns-5 c =
+    let at-if4 = c .before in
+    let at-if3 = at-if4 .before in
+    let at-if2 = at-if3 .before in
+    let at-state-refusal = at-if2 .before in
+    let at-if1 = at-state-refusal .before in
+    let at-lengths-refusal = at-if1 .before in
+    let start = at-lengths-refusal .before in
+    let r = start .args in
+    let s = stateAt (r .s .now) in
+    let lent = at-state-refusal .state-refusal .ensures ∙ lengths-passed (r .vram) (r .xr) s (at-lengths-refusal .lengths-refusal .ensures)
+    (at-if1 .if1 .left) in
+    λ v x p q. c .odd-refusal .ensures v x ∙ sym (write-passed s v x p q lent (r .reg) (r .odd) (r .byte) (at-if2 .if2 .left)
+    ∙ rw (lt-ltb (r .reg) 16 (omega (arith, at-if3 .if3 .left)), not-false (r .odd) (at-if4 .if4 .left)))
+
+pub write-refusal-spec : {M : Type 1} → statement M
+write-refusal-spec =
+    tie.close
+    (tie.spec
+    lengths-refusal-requires
+    returns
+    state-refusal-requires
+    returns-2
+    returns-3
+    returns-4
+    odd-refusal-requires
+    returns-5)

@@ -1,0 +1,2 @@
+-- What the tests of a call amount to.
+pub mod Tested

@@ -1,0 +1,122 @@
+// The refusals of every call, tested in their order.
+use xosera::QUEUED;
+use xosera::WR_XADDR;
+ghost use mathlib.Core.Path.{_≡_};
+ghost use mathlib.Core.Bool.{Bool, true, not, _&&_};
+ghost use mathlib.Core.List.{List, [], _∷_};
+ghost use Prim.Native.Nat.{ℕ, _<_, _≤_};
+ghost use lib.ListN.{length, getD};
+ghost use Rattle.xosera.specs.State.{isSet, stateAt};
+ghost use Rattle.xosera.specs.Adapter.{adapterAt};
+ghost use Rattle.xosera.specs.XrSpace.{isBlitRegister};
+ghost use Rattle.xosera.specs.Events.{write, read, call};
+ghost use Rattle.xosera.specs.Refusals.{inRange, blitterFull, reconfigures, _when_, first, refusal};
+ghost use Rattle.refusals.specs.Tested.{lengthsRefusal, lentRefusal};
+
+// Refusal 3, the only one of a timer tick, a frame end and the line question.
+pub fn state_refusal(s: &[u16; 75]) -> u8
+    ensures { λ r. ⌜ r ≡ first ((3 when not (inRange (stateAt (now (s .entry))))) ∷ []) ⌝ }
+{
+    if ranges::in_range(s) { 0 } else { 3 }
+}
+
+// Refusals 1 and 2: the lengths of the memories.
+fn lengths_refusal(vram: usize, xr: usize) -> u8
+    ensures { λ r. ⌜ r ≡ lengthsRefusal vram xr ⌝ }
+{
+    if !vram::is_vram_length(vram) {
+        return 1;
+    }
+    if xr != 6656 {
+        return 2;
+    }
+    0
+}
+
+// Refusals 1 to 3, those of a run and the first of a byte read.
+pub fn lent_refusal(s: &[u16; 75], vram: usize, xr: usize) -> u8
+    ensures { λ r. ⌜ r ≡ lentRefusal vram xr (stateAt (now (s .entry))) ⌝ }
+{
+    let lengths = lengths_refusal(vram, xr);
+    if lengths != 0 {
+        return lengths;
+    }
+    state_refusal(s)
+}
+
+// The same for a blit step: a function with one caller is compiled into it, and a step is too short for a call.
+pub fn step_refusal(s: &[u16; 75], vram: usize, xr: usize) -> u8
+    ensures { λ r. ⌜ r ≡ lentRefusal vram xr (stateAt (now (s .entry))) ⌝ }
+{
+    let lengths = lengths_refusal(vram, xr);
+    if lengths != 0 {
+        return lengths;
+    }
+    state_refusal(s)
+}
+
+// Refusals 1 to 4, those of a byte read.
+pub fn read_refusal(s: &[u16; 75], vram: usize, xr: usize, reg: u8) -> u8
+    ensures { λ r. ⌜ ((v x : List ℕ) (odd : Bool) → length v ≡ vram → length x ≡ xr → r ≡ refusal (adapterAt (now (s .entry)) v x) (call (read reg odd))) ⌝ }
+{
+    let lent = lent_refusal(s, vram, xr);
+    if lent != 0 {
+        return lent;
+    }
+    if reg > 15 {
+        return 4;
+    }
+    0
+}
+
+// Whether XM_XDATA would reach a blitter register while a blit is queued.
+fn is_full(s: &[u16; 75]) -> bool
+    ensures { λ r. ⌜ r ≡ (isBlitRegister (stateAt (now (s .entry)) .host .xr .wrxaddr .0) && isSet (stateAt (now (s .entry)) .queued)) ⌝ }
+{
+    if !xr_memory::within(0x40, 10, s[WR_XADDR]) {
+        return false;
+    }
+    s[QUEUED] == 1
+}
+
+// Refusals 5 and 6, those of an odd write alone.
+fn odd_refusal(s: &[u16; 75], reg: u8, byte: u8) -> u8
+    requires { ⌜ reg < 16 ⌝ }
+    requires { ⌜ getD (stateAt (now s) .host .latches) reg 0 ≤ 255 ⌝ }
+    ensures { λ r. ⌜
+        ((v x : List ℕ) → r ≡ first ((5 when blitterFull (adapterAt (now (s .entry)) v x) reg true) ∷
+        (6 when reconfigures (adapterAt (now (s .entry)) v x) reg true byte) ∷ []))
+        ⌝ }
+{
+    if reg == 5 {
+        return if is_full(s) { 5 } else { 0 };
+    }
+    if reg != 1 {
+        return 0;
+    }
+    if words::bit(15, host_writes::word_written(s, reg, byte)) {
+        return 6;
+    }
+    0
+}
+
+// Refusals 1 to 6, those of a byte write. It tests the state itself, so that no call is left in a byte write.
+pub fn write_refusal(s: &[u16; 75], vram: usize, xr: usize, reg: u8, odd: bool, byte: u8) -> u8
+    ensures { λ r. ⌜ ((v x : List ℕ) → length v ≡ vram → length x ≡ xr → r ≡ refusal (adapterAt (now (s .entry)) v x) (call (write reg odd byte))) ⌝ }
+{
+    let lengths = lengths_refusal(vram, xr);
+    if lengths != 0 {
+        return lengths;
+    }
+    let state = state_refusal(s);
+    if state != 0 {
+        return state;
+    }
+    if reg > 15 {
+        return 4;
+    }
+    if !odd {
+        return 0;
+    }
+    odd_refusal(s, reg, byte)
+}
