@@ -1,17 +1,21 @@
 -- A call that is refused and one that is done each keep the promise.
 use mathlib.Core.Path.{_≡_, refl, sym, _∙_}
-use mathlib.Core.Bool.{Bool, true, false}
+use mathlib.Core.Bool.{true, false}
+use mathlib.Core.List.{[]}
 use Prim.Native.Nat.{ℕ}
 use borrow.Author.Tests.{eq-eqb, ne-eqb}
 use lib.Dec.{eqb}
-use Rattle.xosera.specs.Adapter.{Adapter}
+use Rattle.xosera.specs.State.{State}
+use Rattle.xosera.specs.Adapter.{Adapter, adapter}
 use Rattle.xosera.specs.Events.{Event}
-use Rattle.xosera.specs.Refusals.{refusal}
+use Rattle.xosera.specs.Refusals.{inRange, refusal}
 use Rattle.xosera.specs.Calls.{done, after, given, answer}
 use Rattle.xosera.proofs.Branches.{cond-yes, cond-no}
+use Rattle.xosera.proofs.RangeLaws.{range-facts}
+use Rattle.queue.specs.Work.{Ready}
 use Rattle.adapter.specs.Promises.{Does}
 
-pub refused : (a : Adapter) (e : Event) (r : ℕ) → r ≡ refusal a e → (r ≡ 0 → ⊥) → Does a e r 0 a
+pub refused : (a : Adapter) (e : Event) (r : ℕ) → r ≡ refusal a e → (r ≡ 0 → ⊥) → Does a e (record { refusal = r; value = 0 }) a
 unfolding answer after
 refused a e r h n =
     let z : eqb (refusal a e) 0 ≡ false = ne-eqb (refusal a e) 0 (λ k. n (h ∙ k)) in
@@ -20,7 +24,8 @@ refused a e r h n =
       leaves = sym (cond-no (done a e) a z);
     }
 
-pub performed : (a : Adapter) (e : Event) (value : ℕ) (b : Adapter) → refusal a e ≡ 0 → value ≡ given a e → b ≡ done a e → Does a e 0 value b
+pub performed : (a : Adapter) (e : Event) (value : ℕ) (b : Adapter) → refusal a e ≡ 0 → value ≡ given a e → b ≡ done a e
+    → Does a e (record { refusal = 0; value = value }) b
 unfolding answer after
 performed a e value b h g d =
     let z : eqb (refusal a e) 0 ≡ true = eq-eqb (refusal a e) 0 h in
@@ -28,3 +33,7 @@ performed a e value b h g d =
       answers = λ i. record { refusal = sym h i; value = (g ∙ sym (cond-yes (given a e) 0 z)) i };
       leaves = d ∙ sym (cond-yes (done a e) a z);
     }
+
+-- What blit steps need of a state in range.
+pub ready : (s : State) → inRange s ≡ true → Ready s
+ready s h = let f = range-facts (adapter s [] []) h in record { engine = f .engine; queue = f .queue }

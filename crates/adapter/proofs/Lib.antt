@@ -1,3 +1,2 @@
--- Laws of answers and refusals that belong to no one call.
+-- Laws of answers that belong to no one call.
 pub mod Answers
-pub mod Refuse

@@ -1,84 +1,107 @@
-// The calls for C: the public calls under the prefix xosera_, structs by value and memories as pointer and length.
+// The calls for C: the public calls under the prefix xosera_, the words of the state behind a pointer and each memory as
+// pointer and length.
 use xosera::BlitAnswer;
 use xosera::LineAnswer;
 use xosera::ReadAnswer;
-use xosera::State;
 use xosera::StateAnswer;
 use xosera::WriteAnswer;
 ghost use mathlib.Core.Path.{_≡_};
-ghost use mathlib.Core.Bool.{cond};
 ghost use mathlib.Core.List.{List};
 ghost use Prim.Native.Nat.{ℕ};
-ghost use Rattle.xosera.specs.Adapter.{adapter};
-ghost use Rattle.xosera.specs.Events.{write, read, tick, frameEnd, line, call, step, run};
+ghost use Rattle.xosera.specs.State.{stateAt};
+ghost use Rattle.xosera.specs.Adapter.{adapterAt};
+ghost use Rattle.xosera.specs.Events.{write, read, tick, frameEnd, line, call, step, run, ofWrite, ofRead, ofBlit, ofState, ofLine};
 ghost use Rattle.xosera.specs.Refusals.{resetState};
-ghost use Rattle.adapter.specs.Promises.{Does};
+ghost use Rattle.adapter.specs.Promises.{Does, Untouched};
 
 #[no_mangle]
-pub extern "C" fn xosera_reset() -> State
-    ensures { λ r. ⌜ r ≡ resetState ⌝ }
+pub extern "C" fn xosera_reset(s: &mut [u16; 75])
+    ensures { λ _. ⌜ stateAt (now (s .exit)) ≡ resetState ⌝ }
 {
-    adapter::reset()
+    adapter::reset(s);
 }
 
 #[no_mangle]
 pub extern "C" fn xosera_write_byte(
-    s: State,
+    s: &mut [u16; 75],
     vram: &mut [u16],
     xr: &mut [u16],
     reg: u8,
     odd: bool,
     byte: u8,
 ) -> WriteAnswer
-    ensures { λ r. ⌜ Does (adapter s (now (vram .entry)) (now (xr .entry))) (call (write reg odd byte)) (r .refusal) 0 (adapter (r .state) (now (vram .exit)) (now (xr .exit))) ⌝ }
+    ensures done { λ r. ⌜
+        Does (adapterAt (now (s .entry)) (now (vram .entry)) (now (xr .entry))) (call (write reg odd byte)) (ofWrite r)
+        (adapterAt (now (s .exit)) (now (vram .exit)) (now (xr .exit)))
+        ⌝ }
+    ensures refused { λ r. ⌜ Untouched (ofWrite r) (now (s .entry)) (now (s .exit)) ⌝ }
 {
     adapter::write_byte(s, vram, xr, reg, odd, byte)
 }
 
 #[no_mangle]
 pub extern "C" fn xosera_read_byte(
-    s: State,
+    s: &mut [u16; 75],
     vram: &[u16],
     xr: &[u16],
     reg: u8,
     odd: bool,
 ) -> ReadAnswer
-    ensures { λ r. ⌜ Does (adapter s (now (vram .entry)) (now (xr .entry))) (call (read reg odd)) (r .refusal) (r .byte) (adapter (r .state) (now (vram .entry)) (now (xr .entry))) ⌝ }
+    ensures done { λ r. ⌜
+        Does (adapterAt (now (s .entry)) (now (vram .entry)) (now (xr .entry))) (call (read reg odd)) (ofRead r)
+        (adapterAt (now (s .exit)) (now (vram .entry)) (now (xr .entry)))
+        ⌝ }
+    ensures refused { λ r. ⌜ Untouched (ofRead r) (now (s .entry)) (now (s .exit)) ⌝ }
 {
     adapter::read_byte(s, vram, xr, reg, odd)
 }
 
 #[no_mangle]
-pub extern "C" fn xosera_blit_step(s: State, vram: &mut [u16], xr: &[u16]) -> BlitAnswer
-    ensures { λ r. ⌜ Does (adapter s (now (vram .entry)) (now (xr .entry))) step (r .refusal) (r .count) (adapter (r .state) (now (vram .exit)) (now (xr .entry))) ⌝ }
+pub extern "C" fn xosera_blit_step(s: &mut [u16; 75], vram: &mut [u16], xr: &[u16]) -> BlitAnswer
+    ensures done { λ r. ⌜
+        Does (adapterAt (now (s .entry)) (now (vram .entry)) (now (xr .entry))) step (ofBlit r)
+        (adapterAt (now (s .exit)) (now (vram .exit)) (now (xr .entry)))
+        ⌝ }
+    ensures refused { λ r. ⌜ Untouched (ofBlit r) (now (s .entry)) (now (s .exit)) ⌝ }
 {
     adapter::blit_step(s, vram, xr)
 }
 
 #[no_mangle]
-pub extern "C" fn xosera_blit_run(s: State, vram: &mut [u16], xr: &[u16], n: u64) -> BlitAnswer
-    ensures { λ r. ⌜ Does (adapter s (now (vram .entry)) (now (xr .entry))) (run n) (r .refusal) (r .count) (adapter (r .state) (now (vram .exit)) (now (xr .entry))) ⌝ }
+pub extern "C" fn xosera_blit_run(
+    s: &mut [u16; 75],
+    vram: &mut [u16],
+    xr: &[u16],
+    n: u64,
+) -> BlitAnswer
+    ensures done { λ r. ⌜
+        Does (adapterAt (now (s .entry)) (now (vram .entry)) (now (xr .entry))) (run n) (ofBlit r)
+        (adapterAt (now (s .exit)) (now (vram .exit)) (now (xr .entry)))
+        ⌝ }
+    ensures refused { λ r. ⌜ Untouched (ofBlit r) (now (s .entry)) (now (s .exit)) ⌝ }
 {
     adapter::blit_run(s, vram, xr, n)
 }
 
 #[no_mangle]
-pub extern "C" fn xosera_timer_tick(s: State) -> StateAnswer
-    ensures { λ r. ⌜ ((v x : List ℕ) → Does (adapter s v x) (call tick) (r .refusal) 0 (adapter (r .state) v x)) ⌝ }
+pub extern "C" fn xosera_timer_tick(s: &mut [u16; 75]) -> StateAnswer
+    ensures done { λ r. ⌜ ((v x : List ℕ) → Does (adapterAt (now (s .entry)) v x) (call tick) (ofState r) (adapterAt (now (s .exit)) v x)) ⌝ }
+    ensures refused { λ r. ⌜ Untouched (ofState r) (now (s .entry)) (now (s .exit)) ⌝ }
 {
     adapter::timer_tick(s)
 }
 
 #[no_mangle]
-pub extern "C" fn xosera_frame_end(s: State) -> StateAnswer
-    ensures { λ r. ⌜ ((v x : List ℕ) → Does (adapter s v x) (call frameEnd) (r .refusal) 0 (adapter (r .state) v x)) ⌝ }
+pub extern "C" fn xosera_frame_end(s: &mut [u16; 75]) -> StateAnswer
+    ensures done { λ r. ⌜ ((v x : List ℕ) → Does (adapterAt (now (s .entry)) v x) (call frameEnd) (ofState r) (adapterAt (now (s .exit)) v x)) ⌝ }
+    ensures refused { λ r. ⌜ Untouched (ofState r) (now (s .entry)) (now (s .exit)) ⌝ }
 {
     adapter::frame_end(s)
 }
 
 #[no_mangle]
-pub extern "C" fn xosera_interrupt_line(s: State) -> LineAnswer
-    ensures { λ r. ⌜ ((v x : List ℕ) → Does (adapter s v x) (call line) (r .refusal) (cond (r .up) 1 0) (adapter (r .state) v x)) ⌝ }
+pub extern "C" fn xosera_interrupt_line(s: &[u16; 75]) -> LineAnswer
+    ensures { λ r. ⌜ ((v x : List ℕ) → Does (adapterAt (now (s .entry)) v x) (call line) (ofLine r) (adapterAt (now (s .entry)) v x)) ⌝ }
 {
     adapter::interrupt_line(s)
 }

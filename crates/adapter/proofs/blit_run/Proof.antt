@@ -1,37 +1,65 @@
 -- Refused, or as many words as are left.
-use mathlib.Core.List.{[]}
 use mathlib.Core.Path.{refl, sym, _∙_}
-use native.Mathlib.Omega.{arith}
-use Rattle.xosera.specs.Adapter.{adapter}
+use mathlib.Core.List.{[]}
+use Rattle.xosera.specs.State.{stateAt}
+use Rattle.xosera.specs.Adapter.{adapterAt}
 use Rattle.xosera.specs.Events.{run}
 use Rattle.xosera.specs.Calls.{done, given}
-use Rattle.adapter.proofs.Answers.{refused, performed}
-use Rattle.adapter.proofs.Refuse.{step-refusal, run-refusal, step-lent, ready}
+use Rattle.refusals.proofs.Accepted.{step-lent}
+use Rattle.refusals.proofs.Order.{step-refusal, run-refusal}
+use Rattle.adapter.proofs.Answers.{ready, refused, performed}
 use borrow.Author.Needs.{needs}
 use Rattle.adapter.proofs.blit_run.Statement.{statement}
 use Rattle.adapter.proofs.blit_run.Tie as tie
 
-base-refusal-requires : tie.Need-base-refusal-requires
-base-refusal-requires c κs = search needs
+lent-refusal-requires : tie.Need-lent-refusal-requires
+lent-refusal-requires c κs = search needs
 
 returns : tie.Need-returns
-returns c = refused (adapter (c .before .before .before .before .args .s) (c .before .before .before .before .args .vram .now) (c .before .before .before .before .args .xr .now)) (run (c .before .before .before .before .args .n)) _ (c .before .base-refusal .ensures ∙ run-refusal (c .before .before .before .before .args .s) (c .before .before .before .before .args .vram .now) (c .before .before .before .before .args .xr .now) (c .before .before .before .before .args .n)) (c .if1 .taken)
+returns c =
+    let at-lent-refusal = c .before in
+    let start = at-lent-refusal .before .before .before .before in
+    let a = start .args in
+    let here = adapterAt (a .s .now) (a .vram .now) (a .xr .now) in (
+      refused here (run (a .n)) _ (at-lent-refusal .lent-refusal .ensures ∙ sym
+          (run-refusal (stateAt (a .s .now)) (a .vram .now) (a .xr .now) (a .n))) (c .if1 .taken),
+      λ _. refl,
+    )
 
 run-requires : tie.Need-run-requires
 run-requires c κs =
-    let l = step-lent (c .before .before .before .before .before .args .s) (c .before .before .before .before .before .args .vram .now) (c .before .before .before .before .before .args .xr .now) (sym (c .before .before .base-refusal .ensures ∙ step-refusal (c .before .before .before .before .before .args .s) (c .before .before .before .before .before .args .vram .now) (c .before .before .before .before .before .args .xr .now)) ∙ c .before .if1 .left) in
-    (l .vram, ready (c .before .before .before .before .before .args .s) (c .before .before .before .before .before .args .vram .now) (c .before .before .before .before .before .args .xr .now) (l .state))
+    let at-if1 = c .before .before in
+    let at-lent-refusal = at-if1 .before in
+    let start = at-lent-refusal .before .before .before .before in
+    let a = start .args in
+    let fine = step-lent (stateAt (a .s .now)) (a .vram .now) (a .xr .now)
+    (sym (at-lent-refusal .lent-refusal .ensures ∙ sym (step-refusal (stateAt (a .s .now)) (a .vram .now) (a .xr .now))) ∙ at-if1 .if1 .left) in
+    (search needs, (fine .vram, ready (stateAt (a .s .now)) (fine .state)))
 
-sub-t13 : tie.Need-sub-t13
-sub-t13 c = c .before .before .before .before .run .ensures .1 [] .0
+sub-count : tie.Need-sub-count
+sub-count c =
+    let at-run = c .before .before in
+    at-run .run .ensures .1 [] .0
 
 same-length : tie.Need-same-length
 same-length c = search needs
 
 returns-2 : tie.Need-returns-2
 unfolding done given
-returns-2 c = performed (adapter (c .before .before .before .before .before .before .before .before .before .before .args .s) (c .before .before .before .before .before .before .before .before .before .before .args .vram .now) (c .before .before .before .before .before .before .before .before .before .before .args .xr .now)) (run (c .before .before .before .before .before .before .before .before .before .before .args .n)) _ _ (sym (c .before .before .before .before .before .before .before .base-refusal .ensures ∙ run-refusal (c .before .before .before .before .before .before .before .before .before .before .args .s) (c .before .before .before .before .before .before .before .before .before .before .args .vram .now) (c .before .before .before .before .before .before .before .before .before .before .args .xr .now) (c .before .before .before .before .before .before .before .before .before .before .args .n)) ∙ c .before .before .before .before .before .before .if1 .left) (c .before .before .before .before .run .ensures .1 (c .before .before .before .before .before .before .before .before .before .before .args .xr .now) .1) (c .before .before .before .before .run .ensures .0 (c .before .before .before .before .before .before .before .before .before .before .args .xr .now))
+returns-2 c =
+    let at-run = c .before .before in
+    let at-if1 = at-run .before .before .before in
+    let at-lent-refusal = at-if1 .before in
+    let start = at-lent-refusal .before .before .before .before in
+    let a = start .args in
+    let here = adapterAt (a .s .now) (a .vram .now) (a .xr .now) in
+    let told = at-run .run .ensures in (
+      performed here (run (a .n)) _ _ (sym (at-lent-refusal .lent-refusal .ensures ∙ sym
+          (run-refusal (stateAt (a .s .now)) (a .vram .now) (a .xr .now) (a .n))) ∙ at-if1 .if1 .left) (told .1 (a .xr .now) .1) (told .0 (a .xr .now)),
+      λ
+          n. absurd (n refl),
+    )
 
 pub blit-run-spec : {M : Type 1} → statement M
 blit-run-spec =
-    tie.close (tie.spec base-refusal-requires returns run-requires sub-t13 same-length returns-2)
+    tie.close (tie.spec lent-refusal-requires returns run-requires sub-count same-length returns-2)

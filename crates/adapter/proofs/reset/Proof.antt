@@ -1,17 +1,19 @@
--- The code is the definition.
+-- All words 0 but two.
 use mathlib.Core.Path.{refl}
+use Rattle.xosera.specs.State.{stateAt}
 use borrow.Author.Needs.{needs}
 use Rattle.adapter.proofs.reset.Statement.{statement}
 use Rattle.adapter.proofs.reset.Tie as tie
 
-idle-engine-requires : tie.Need-idle-engine-requires
-idle-engine-requires c κs = search needs
+element-write-s : tie.Need-element-write-s
+element-write-s c = search needs
 
-reset-host-requires : tie.Need-reset-host-requires
-reset-host-requires c κs = search needs
+element-write-s-2 : tie.Need-element-write-s-2
+element-write-s-2 c = search needs
 
 returns : tie.Need-returns
-returns c = rw (c .reset-host .ensures, c .before .before .idle-engine .ensures)
+unfolding stateAt
+returns c = refl
 
 pub reset-spec : {M : Type 1} → statement M
-reset-spec = tie.close (tie.spec idle-engine-requires reset-host-requires returns)
+reset-spec = tie.close (tie.spec element-write-s element-write-s-2 returns)
