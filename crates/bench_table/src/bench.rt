@@ -2,19 +2,15 @@
 use xosera::BlitAnswer;
 use xosera::BlitRegs;
 use xosera::ReadAnswer;
-use xosera::State;
 use xosera::WriteAnswer;
+
+// The words of the state.
+pub type Words = [u16; 75];
 
 // The memories: 256 words of VRAM, and all XR words.
 pub type Vram = [u16; 256];
 
 pub type Xr = [u16; 6656];
-
-// A word as both bytes of a register were read, and the state after.
-pub struct WordRead {
-    pub state: State,
-    pub word: u64,
-}
 
 fn fill(memory: &mut [u16], word: u16) {
     let mut i = 0;
@@ -25,10 +21,10 @@ fn fill(memory: &mut [u16], word: u16) {
 }
 
 // Every VRAM word FFFF, every XR word 0, and the state after reset.
-pub fn fresh(vram: &mut Vram, xr: &mut Xr) -> State {
+pub fn fresh(s: &mut Words, vram: &mut Vram, xr: &mut Xr) {
     fill(vram, 0xFFFF);
     fill(xr, 0);
-    adapter::reset()
+    adapter::reset(s);
 }
 
 // A VRAM word that a case names.
@@ -70,42 +66,35 @@ pub fn bit_6(n: u64) -> u64 {
 }
 
 // A byte written to a main register, and a word as the odd byte's write answers.
-fn write(s: State, vram: &mut Vram, xr: &mut Xr, reg: u8, odd: bool, byte: u8) -> WriteAnswer {
+fn write(s: &mut Words, vram: &mut Vram, xr: &mut Xr, reg: u8, odd: bool, byte: u8) -> WriteAnswer {
     adapter::write_byte(s, vram, xr, reg, odd, byte)
 }
 
-pub fn write_word(s: State, vram: &mut Vram, xr: &mut Xr, reg: u8, word: u16) -> WriteAnswer {
-    let even = write(s, vram, xr, reg, false, high(word));
-    let t = even.state;
-    write(t, vram, xr, reg, true, low(word))
+pub fn write_word(s: &mut Words, vram: &mut Vram, xr: &mut Xr, reg: u8, word: u16) -> WriteAnswer {
+    write(s, vram, xr, reg, false, high(word));
+    write(s, vram, xr, reg, true, low(word))
 }
 
-// The same for the state alone.
-pub fn set(s: State, vram: &mut Vram, xr: &mut Xr, reg: u8, word: u16) -> State {
-    let answer = write_word(s, vram, xr, reg, word);
-    answer.state
+// The same without the answer.
+pub fn set(s: &mut Words, vram: &mut Vram, xr: &mut Xr, reg: u8, word: u16) {
+    write_word(s, vram, xr, reg, word);
 }
 
 // An XR register written through XM_WR_XADDR and XM_XDATA.
-pub fn set_xr(s: State, vram: &mut Vram, xr: &mut Xr, address: u16, word: u16) -> State {
-    let t = set(s, vram, xr, 4, address);
-    set(t, vram, xr, 5, word)
+pub fn set_xr(s: &mut Words, vram: &mut Vram, xr: &mut Xr, address: u16, word: u16) {
+    set(s, vram, xr, 4, address);
+    set(s, vram, xr, 5, word);
 }
 
 // A byte read from a main register, and a word from both its bytes.
-pub fn read(s: State, vram: &Vram, xr: &Xr, reg: u8, odd: bool) -> ReadAnswer {
+pub fn read(s: &mut Words, vram: &Vram, xr: &Xr, reg: u8, odd: bool) -> ReadAnswer {
     adapter::read_byte(s, vram, xr, reg, odd)
 }
 
-pub fn read_word(s: State, vram: &Vram, xr: &Xr, reg: u8) -> WordRead {
+pub fn read_word(s: &mut Words, vram: &Vram, xr: &Xr, reg: u8) -> u64 {
     let even = read(s, vram, xr, reg, false);
-    let t = even.state;
-    let odd = read(t, vram, xr, reg, true);
-    let state = odd.state;
-    WordRead {
-        state,
-        word: word_of(even.byte, odd.byte),
-    }
+    let odd = read(s, vram, xr, reg, true);
+    word_of(even.byte, odd.byte)
 }
 
 // A blit of one word with every mask F, all else 0.
@@ -125,51 +114,48 @@ pub fn plain() -> BlitRegs {
 }
 
 // The blitter's ten registers in order, from 0x40 on: what is drawn, where, and how much.
-fn set_drawing(s: State, vram: &mut Vram, xr: &mut Xr, b: BlitRegs) -> State {
-    let t = set_xr(s, vram, xr, 0x40, b.ctrl);
-    let u = set(t, vram, xr, 5, b.andc);
-    set(u, vram, xr, 5, b.xor)
+fn set_drawing(s: &mut Words, vram: &mut Vram, xr: &mut Xr, b: BlitRegs) {
+    set_xr(s, vram, xr, 0x40, b.ctrl);
+    set(s, vram, xr, 5, b.andc);
+    set(s, vram, xr, 5, b.xor);
 }
 
-fn set_places(s: State, vram: &mut Vram, xr: &mut Xr, b: BlitRegs) -> State {
-    let t = set(s, vram, xr, 5, b.mods);
-    let u = set(t, vram, xr, 5, b.srcs);
-    let v = set(u, vram, xr, 5, b.modd);
-    set(v, vram, xr, 5, b.dstd)
+fn set_places(s: &mut Words, vram: &mut Vram, xr: &mut Xr, b: BlitRegs) {
+    set(s, vram, xr, 5, b.mods);
+    set(s, vram, xr, 5, b.srcs);
+    set(s, vram, xr, 5, b.modd);
+    set(s, vram, xr, 5, b.dstd);
 }
 
-fn set_size(s: State, vram: &mut Vram, xr: &mut Xr, b: BlitRegs) -> State {
-    let t = set(s, vram, xr, 5, b.shift);
-    let u = set(t, vram, xr, 5, b.lines);
-    set(u, vram, xr, 5, b.words)
+fn set_size(s: &mut Words, vram: &mut Vram, xr: &mut Xr, b: BlitRegs) {
+    set(s, vram, xr, 5, b.shift);
+    set(s, vram, xr, 5, b.lines);
+    set(s, vram, xr, 5, b.words);
 }
 
 // All ten written; the last starts the blit, or queues it.
-pub fn start(s: State, vram: &mut Vram, xr: &mut Xr, b: BlitRegs) -> State {
-    let t = set_drawing(s, vram, xr, b);
-    let u = set_places(t, vram, xr, b);
-    set_size(u, vram, xr, b)
+pub fn start(s: &mut Words, vram: &mut Vram, xr: &mut Xr, b: BlitRegs) {
+    set_drawing(s, vram, xr, b);
+    set_places(s, vram, xr, b);
+    set_size(s, vram, xr, b);
 }
 
 // Up to n blit steps.
-pub fn run(s: State, vram: &mut Vram, xr: &Xr, n: u64) -> BlitAnswer {
+pub fn run(s: &mut Words, vram: &mut Vram, xr: &Xr, n: u64) -> BlitAnswer {
     adapter::blit_run(s, vram, xr, n)
 }
 
 // A blit started, and up to nine words of it done.
-pub fn blit(s: State, vram: &mut Vram, xr: &mut Xr, b: BlitRegs) -> BlitAnswer {
-    let t = start(s, vram, xr, b);
-    run(t, vram, xr, 9)
+pub fn blit(s: &mut Words, vram: &mut Vram, xr: &mut Xr, b: BlitRegs) -> BlitAnswer {
+    start(s, vram, xr, b);
+    run(s, vram, xr, 9)
 }
 
 // Some timer ticks, one after the other.
-pub fn ticked(s: State, ticks: u64) -> State {
-    let mut t = s;
+pub fn tick(s: &mut Words, ticks: u64) {
     let mut left = ticks;
     while left > 0 {
-        let answer = adapter::timer_tick(t);
-        t = answer.state;
+        adapter::timer_tick(s);
         left -= 1;
     }
-    t
 }

@@ -1,6 +1,7 @@
 // The rows on what a blit leaves in VRAM. Sources stand at 0x10, targets from 0 on where the row names none.
 use crate::bench;
 use crate::bench::Vram;
+use crate::bench::Words;
 use crate::bench::Xr;
 
 // Three VRAM words from an address on, and the first alone.
@@ -17,8 +18,8 @@ fn first(vram: &Vram) -> [u64; 4] {
     [a, 0, 0, 0]
 }
 
-pub fn shifter(vram: &mut Vram, xr: &mut Xr) -> [u64; 4] {
-    let s = bench::fresh(vram, xr);
+pub fn shifter(s: &mut Words, vram: &mut Vram, xr: &mut Xr) -> [u64; 4] {
+    bench::fresh(s, vram, xr);
     bench::place(vram, 0x10, 0x1234);
     bench::place(vram, 0x11, 0x5678);
     bench::place(vram, 0x12, 0x9ABC);
@@ -30,8 +31,8 @@ pub fn shifter(vram: &mut Vram, xr: &mut Xr) -> [u64; 4] {
     three(vram, 0)
 }
 
-pub fn logic(vram: &mut Vram, xr: &mut Xr) -> [u64; 4] {
-    let s = bench::fresh(vram, xr);
+pub fn logic(s: &mut Words, vram: &mut Vram, xr: &mut Xr) -> [u64; 4] {
+    bench::fresh(s, vram, xr);
     let mut b = bench::plain();
     b.ctrl = 1;
     b.andc = 0x00FF;
@@ -42,8 +43,8 @@ pub fn logic(vram: &mut Vram, xr: &mut Xr) -> [u64; 4] {
 }
 
 // One word of the constant 0B0A under a colour test.
-fn coloured(vram: &mut Vram, xr: &mut Xr, ctrl: u16) -> [u64; 4] {
-    let s = bench::fresh(vram, xr);
+fn coloured(s: &mut Words, vram: &mut Vram, xr: &mut Xr, ctrl: u16) -> [u64; 4] {
+    bench::fresh(s, vram, xr);
     let mut b = bench::plain();
     b.ctrl = ctrl;
     b.srcs = 0x0B0A;
@@ -51,16 +52,16 @@ fn coloured(vram: &mut Vram, xr: &mut Xr, ctrl: u16) -> [u64; 4] {
     first(vram)
 }
 
-pub fn colour_nibbles(vram: &mut Vram, xr: &mut Xr) -> [u64; 4] {
-    coloured(vram, xr, 0x0A11)
+pub fn colour_nibbles(s: &mut Words, vram: &mut Vram, xr: &mut Xr) -> [u64; 4] {
+    coloured(s, vram, xr, 0x0A11)
 }
 
-pub fn colour_bytes(vram: &mut Vram, xr: &mut Xr) -> [u64; 4] {
-    coloured(vram, xr, 0x0A31)
+pub fn colour_bytes(s: &mut Words, vram: &mut Vram, xr: &mut Xr) -> [u64; 4] {
+    coloured(s, vram, xr, 0x0A31)
 }
 
-pub fn both_masks(vram: &mut Vram, xr: &mut Xr) -> [u64; 4] {
-    let s = bench::fresh(vram, xr);
+pub fn both_masks(s: &mut Words, vram: &mut Vram, xr: &mut Xr) -> [u64; 4] {
+    bench::fresh(s, vram, xr);
     let mut b = bench::plain();
     b.ctrl = 1;
     b.srcs = 0x1234;
@@ -69,8 +70,8 @@ pub fn both_masks(vram: &mut Vram, xr: &mut Xr) -> [u64; 4] {
     first(vram)
 }
 
-pub fn moving_constant(vram: &mut Vram, xr: &mut Xr) -> [u64; 4] {
-    let s = bench::fresh(vram, xr);
+pub fn moving_constant(s: &mut Words, vram: &mut Vram, xr: &mut Xr) -> [u64; 4] {
+    bench::fresh(s, vram, xr);
     let mut b = bench::plain();
     b.ctrl = 1;
     b.mods = 1;
@@ -80,8 +81,8 @@ pub fn moving_constant(vram: &mut Vram, xr: &mut Xr) -> [u64; 4] {
     three(vram, 0)
 }
 
-pub fn overlap(vram: &mut Vram, xr: &mut Xr) -> [u64; 4] {
-    let s = bench::fresh(vram, xr);
+pub fn overlap(s: &mut Words, vram: &mut Vram, xr: &mut Xr) -> [u64; 4] {
+    bench::fresh(s, vram, xr);
     bench::place(vram, 0x10, 0xA);
     let mut b = bench::plain();
     b.srcs = 0x10;

@@ -8,21 +8,23 @@ mod report;
 mod table;
 
 use crate::bench::Vram;
+use crate::bench::Words;
 use crate::bench::Xr;
 
-// The fifteen rows over the memories lent, and how many were as they should be.
-fn run(vram: &mut Vram, xr: &mut Xr) {
+// The fifteen rows over the state and the memories lent, and how many were as they should be.
+fn run(s: &mut Words, vram: &mut Vram, xr: &mut Xr) {
     report::put(b"case | should give | gave | verdict\n");
-    let drawing = table::drawing(0, vram, xr);
-    let places = table::places(drawing, vram, xr);
-    let hosts = table::hosts(places, vram, xr);
-    let queues = table::queues(hosts, vram, xr);
+    let drawing = table::drawing(0, s, vram, xr);
+    let places = table::places(drawing, s, vram, xr);
+    let hosts = table::hosts(places, s, vram, xr);
+    let queues = table::queues(hosts, s, vram, xr);
     report::put_number(queues);
     report::put(b" of 15 rows as they should be\n");
 }
 
 fn main() {
+    let mut state = [0u16; 75];
     let mut vram = [0u16; 256];
     let mut xr = [0u16; 6656];
-    run(&mut vram, &mut xr);
+    run(&mut state, &mut vram, &mut xr);
 }

@@ -3,9 +3,9 @@ use mathlib.Core.Path.{_≡_, refl, sym, ap, _∙_}
 use mathlib.Core.List.{List, [], _∷_, _++_}
 use Prim.Native.Nat.{ℕ, zero, suc, _+_, _≤_, _<_}
 use native.Mathlib.Omega.{arith}
-use lib.ListN.{length, getD, take, drop, set}
+use lib.ListN.{length, getD, take, drop, set, List·getD-eq-default}
 use Rattle.xosera.specs.Events.{Event, Answer, run}
-use Rattle.sequence.specs.Played.{eventOf, eventsOf, answersOf}
+use Rattle.sequence.specs.Played.{kinds, eventOf, eventsOf, answersOf}
 
 pub events-next : (ks ns : List ℕ) (i : ℕ) → i < length ks → length ns ≡ length ks
     → drop i (eventsOf ks ns) ≡ eventOf (getD ks i 0) (getD ns i 0) ∷ drop (suc i) (eventsOf ks ns)
@@ -43,14 +43,6 @@ answers-all (x ∷ rs) (y ∷ vs) zero h = absurd (omega arith)
 answers-all (x ∷ rs) (y ∷ vs) (suc i) h = ap (λ (l : List Answer). record { refusal = x; value = y } ∷ l) (answers-all rs vs i (omega arith))
 
 -- A kind that is none of the first eight is a run.
-pub else-run : (k n : ℕ) → (k ≡ 0 → ⊥) → (k ≡ 1 → ⊥) → (k ≡ 2 → ⊥) → (k ≡ 3 → ⊥) → (k ≡ 4 → ⊥) → (k ≡ 5 → ⊥) → (k ≡ 6 → ⊥) → (k ≡ 7 → ⊥) → run n ≡ eventOf k n
+pub else-run : (k n : ℕ) → (k < 8 → ⊥) → run n ≡ eventOf k n
 unfolding eventOf
-else-run zero n n0 n1 n2 n3 n4 n5 n6 n7 = absurd (n0 refl)
-else-run (suc (zero)) n n0 n1 n2 n3 n4 n5 n6 n7 = absurd (n1 refl)
-else-run (suc (suc (zero))) n n0 n1 n2 n3 n4 n5 n6 n7 = absurd (n2 refl)
-else-run (suc (suc (suc (zero)))) n n0 n1 n2 n3 n4 n5 n6 n7 = absurd (n3 refl)
-else-run (suc (suc (suc (suc (zero))))) n n0 n1 n2 n3 n4 n5 n6 n7 = absurd (n4 refl)
-else-run (suc (suc (suc (suc (suc (zero)))))) n n0 n1 n2 n3 n4 n5 n6 n7 = absurd (n5 refl)
-else-run (suc (suc (suc (suc (suc (suc (zero))))))) n n0 n1 n2 n3 n4 n5 n6 n7 = absurd (n6 refl)
-else-run (suc (suc (suc (suc (suc (suc (suc (zero)))))))) n n0 n1 n2 n3 n4 n5 n6 n7 = absurd (n7 refl)
-else-run (suc (suc (suc (suc (suc (suc (suc (suc (k))))))))) n n0 n1 n2 n3 n4 n5 n6 n7 = refl
+else-run k n h = sym (List·getD-eq-default (kinds n) (run n) {n = k} (omega (arith, h)))

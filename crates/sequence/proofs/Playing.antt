@@ -20,7 +20,8 @@ pub playing-start : (a : Adapter) (es : List Event) (rs vs : List ℕ) → Playi
 playing-start a es rs vs = record { ahead = refl; behind = refl }
 
 pub playing-on : {a b c : Adapter} {es : List Event} {e : Event} {i r v : ℕ} {rs vs : List ℕ} → Playing a es b i rs vs
-    → drop i es ≡ e ∷ drop (suc i) es → i < length rs → i < length vs → Does b e r v c → Playing a es c (i + 1) (set rs i r) (set vs i v)
+    → drop i es ≡ e ∷ drop (suc i) es → i < length rs → i < length vs → Does b e (record { refusal = r; value = v }) c → Playing a es c (i + 1)
+    (set rs i r) (set vs i v)
 unfolding afterAll allAnswers
 playing-on {a} {b} {c} {es} {e} {i} {r} {v} {rs} {vs} p next hr hv d = record {
   ahead =

@@ -7,6 +7,7 @@ use Prim.Native.Nat.{ℕ, _-_, _≤_, _<_, min}
 use native.Mathlib.Omega.{arith}
 use lib.Dec.{eqb}
 use lib.ListN.{replicate}
+use Rattle.xosera.specs.State.{isSet}
 use Rattle.xosera.specs.Adapter.{Adapter}
 use Rattle.xosera.specs.Blitter.{drawn, stepped, steps, wordsLeft}
 use Rattle.xosera.specs.Events.{Event, Answer, step, run}
@@ -23,7 +24,7 @@ use Rattle.order.proofs.Demand3.{start-fit}
 use Rattle.sequence.specs.Played.{Played}
 
 -- What a call that was done promises.
-module _ {a b : Adapter} {e : Event} {v : ℕ} (d : Does a e 0 v b) where
+module _ {a b : Adapter} {e : Event} {v : ℕ} (d : Does a e (record { refusal = 0; value = v }) b) where
   accepted : refusal a e ≡ 0
   unfolding answer
   accepted = sym (ap (λ (x : Answer). x .refusal) (d .answers))
@@ -37,11 +38,11 @@ module _ {a b : Adapter} {e : Event} {v : ℕ} (d : Does a e 0 v b) where
   leaves = d .leaves ∙ rw accepted
 
 -- A step on a running engine draws the engine's next word and no other, and counts 1; on an idle one it counts 0.
-drawn-word : (a : Adapter) → a .engine .running ≡ true → stepped a .vram ≡ drawn (a .engine) (a .vram)
+drawn-word : (a : Adapter) → isSet (a .engine .running) ≡ true → stepped a .vram ≡ drawn (a .engine) (a .vram)
 drawn-word a r =
     step-cases (λ (c : Adapter). c .vram ≡ drawn (a .engine) (a .vram)) a (λ i. absurd (true≢false (sym r ∙ i))) (λ _ _. refl) (λ _ _. refl)
 
-pub step-draws-one-word : {a b : Adapter} {v : ℕ} → Does a step 0 v b → a .engine .running ≡ true
+pub step-draws-one-word : {a b : Adapter} {v : ℕ} → Does a step (record { refusal = 0; value = v }) b → isSet (a .engine .running) ≡ true
     → (v ≡ 1) × (b .vram ≡ drawn (a .engine) (a .vram))
 unfolding done given
 step-draws-one-word {a} {b} {v} d r = (
@@ -52,7 +53,7 @@ step-draws-one-word {a} {b} {v} d r = (
     one : 0 < wordsLeft a → min 1 (wordsLeft a) ≡ 1
     one h = omega arith
 
-pub idle-step-draws-none : {a b : Adapter} {v : ℕ} → Does a step 0 v b → a .engine .running ≡ false → v ≡ 0
+pub idle-step-draws-none : {a b : Adapter} {v : ℕ} → Does a step (record { refusal = 0; value = v }) b → isSet (a .engine .running) ≡ false → v ≡ 0
 unfolding given
 idle-step-draws-none {a} {b} {v} d r = gives d ∙ none (idle-none-left a (accepted-in-range a step (accepted d)) r)
   where
@@ -63,7 +64,7 @@ idle-step-draws-none {a} {b} {v} d r = gives d ∙ none (idle-none-left a (accep
 pub blit-ends-on-its-last-call : (a c : Adapter) (b n : ℕ) (told : List Answer) → Starts a b →
     let s = after a (startWith b) in
     Played s (replicate n step) told c →
-    (n < wordsOf s → c .engine .running ≡ true) × (wordsOf s ≤ n → c .engine .running ≡ false)
+    (n < wordsOf s → isSet (c .engine .running) ≡ true) × (wordsOf s ≤ n → isSet (c .engine .running) ≡ false)
 unfolding afterAll
 blit-ends-on-its-last-call a c b n told starts p =
     let s : Adapter = after a (startWith b) in
@@ -71,11 +72,12 @@ blit-ends-on-its-last-call a c b n told starts p =
     let there : c ≡ steps n s =
     p .leaves ∙ ap (afterAll s) (sym (append-nil (replicate n step)))
     ∙ ends-after-steps n s [] (fit-after a (startWith b) (start-fit a b (starts .accepted))) in
-    let same : c .engine .running ≡ steps n s .engine .running = ap (λ (x : Adapter). x .engine .running) there in
+    let same : isSet (c .engine .running) ≡ isSet (steps n s .engine .running) = ap (λ (x : Adapter). isSet (x .engine .running)) there in
     (λ h. same ∙ ends .runs n h, λ h. same ∙ ends .over n h)
 
 -- A run counts the smaller of n and the words left, and that many fewer are left, for any n.
-pub run-counts-words-left : {a b : Adapter} {n v : ℕ} → Does a (run n) 0 v b → (v ≡ min n (wordsLeft a)) × (wordsLeft b ≡ wordsLeft a - n)
+pub run-counts-words-left : {a b : Adapter} {n v : ℕ} → Does a (run n) (record { refusal = 0; value = v }) b → (v ≡ min n (wordsLeft a)) ×
+    (wordsLeft b ≡ wordsLeft a - n)
 unfolding done given
 run-counts-words-left {a} {b} {n} {v} d = (
   gives d,

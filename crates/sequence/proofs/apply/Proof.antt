@@ -1,10 +1,9 @@
 -- By the arm that was taken.
-use mathlib.Core.Path.{subst}
-use Rattle.xosera.specs.Adapter.{Adapter, adapter}
-use Rattle.xosera.specs.Events.{Event}
-use Rattle.adapter.specs.Promises.{Does}
-use Rattle.sequence.proofs.Lists.{else-run}
+use mathlib.Core.Path.{_≡_, refl}
+use Prim.Native.Nat.{ℕ}
+use Rattle.xosera.proofs.WordLaws.{_and_, below}
 use Rattle.sequence.specs.Played.{eventOf}
+use Rattle.sequence.proofs.Lists.{else-run}
 use borrow.Author.Needs.{needs}
 use Rattle.sequence.proofs.apply.Statement.{statement}
 use Rattle.sequence.proofs.apply.Tie as tie
@@ -44,7 +43,10 @@ same-length-2 c = search needs
 
 returns : tie.Need-returns
 unfolding eventOf
-returns c = rw (c .before .before .before .before .before .before .before .match .keys1) (c .before .before .before .before .write .ensures)
+returns c =
+    let at-write = c .before .before .before .before in
+    let at-match = at-write .before .before .before .before in
+    rw (at-match .match .keys1) (at-write .write .ensures)
 
 same-length-3 : tie.Need-same-length-3
 same-length-3 c = search needs
@@ -54,7 +56,10 @@ same-length-4 c = search needs
 
 returns-2 : tie.Need-returns-2
 unfolding eventOf
-returns-2 c = rw (c .before .before .before .before .before .before .before .match .keys2) (c .before .before .before .before .write2 .ensures)
+returns-2 c =
+    let at-write2 = c .before .before .before .before in
+    let at-match = at-write2 .before .before .before .before in
+    rw (at-match .match .keys2) (at-write2 .write2 .ensures)
 
 same-length-5 : tie.Need-same-length-5
 same-length-5 c = search needs
@@ -64,7 +69,9 @@ same-length-6 c = search needs
 
 returns-3 : tie.Need-returns-3
 unfolding eventOf
-returns-3 c = rw (c .before .before .before .match .keys3) (c .read .ensures)
+returns-3 c =
+    let at-match = c .before .before .before .before in
+    rw (at-match .match .keys3) (c .read .ensures)
 
 same-length-7 : tie.Need-same-length-7
 same-length-7 c = search needs
@@ -74,19 +81,30 @@ same-length-8 c = search needs
 
 returns-4 : tie.Need-returns-4
 unfolding eventOf
-returns-4 c = rw (c .before .before .before .match .keys4) (c .read2 .ensures)
+returns-4 c =
+    let at-match = c .before .before .before .before in
+    rw (at-match .match .keys4) (c .read2 .ensures)
 
 returns-5 : tie.Need-returns-5
 unfolding eventOf
-returns-5 c = rw (c .before .match .keys5) (c .tick .ensures (c .before .before .before .before .args .vram .now) (c .before .before .before .before .args .xr .now))
+returns-5 c =
+    let at-match = c .before .before in
+    let start = at-match .before .before .before in
+    rw (at-match .match .keys5) (c .tick .ensures (start .args .vram .now) (start .args .xr .now))
 
 returns-6 : tie.Need-returns-6
 unfolding eventOf
-returns-6 c = rw (c .before .match .keys6) (c .frame-end .ensures (c .before .before .before .before .args .vram .now) (c .before .before .before .before .args .xr .now))
+returns-6 c =
+    let at-match = c .before .before in
+    let start = at-match .before .before .before in
+    rw (at-match .match .keys6) (c .frame-end .ensures (start .args .vram .now) (start .args .xr .now))
 
 returns-7 : tie.Need-returns-7
 unfolding eventOf
-returns-7 c = rw (c .before .match .keys7) (c .line .ensures (c .before .before .before .before .args .vram .now) (c .before .before .before .before .args .xr .now))
+returns-7 c =
+    let at-match = c .before .before in
+    let start = at-match .before .before .before in
+    rw (at-match .match .keys7) (c .line .ensures (start .args .vram .now) (start .args .xr .now))
 
 same-length-9 : tie.Need-same-length-9
 same-length-9 c = search needs
@@ -96,7 +114,10 @@ same-length-10 c = search needs
 
 returns-8 : tie.Need-returns-8
 unfolding eventOf
-returns-8 c = rw (c .before .before .before .before .before .match .keys8) (c .before .before .step .ensures)
+returns-8 c =
+    let at-step = c .before .before in
+    let at-match = at-step .before .before .before .before in
+    rw (at-match .match .keys8) (at-step .step .ensures)
 
 same-length-11 : tie.Need-same-length-11
 same-length-11 c = search needs
@@ -106,9 +127,14 @@ same-length-12 c = search needs
 
 returns-9 : tie.Need-returns-9
 returns-9 c =
-    let r = c .before .before .before .before .before .match .rest in
-    let a = c .before .before .before .before .before .before .before .before .args in
-    rw (← else-run (a .kind) (a .arg) (r .0 .0 .0 .0 .0 .0 .0 .1) (r .0 .0 .0 .0 .0 .0 .1) (r .0 .0 .0 .0 .0 .1) (r .0 .0 .0 .0 .1) (r .0 .0 .0 .1) (r .0 .0 .1) (r .0 .1) (r .1)) (c .before .before .run .ensures)
+    let at-run = c .before .before in
+    let at-match = at-run .before .before .before .before in
+    let start = at-match .before .before .before in
+    let n = at-match .match .rest in
+    let kind = start .args .kind in
+    let none = n .0 .0 .0 .0 .0 .0 .0 .1 and n .0 .0 .0 .0 .0 .0 .1 and n .0 .0 .0 .0 .0 .1 and n .0 .0 .0 .0 .1 and n .0 .0 .0 .1 and n .0 .0 .1 and
+    n .0 .1 and n .1 and tt in
+    rw (← else-run kind (start .args .arg) (λ l. below (λ (k : ℕ). kind ≡ k → ⊥) 8 none kind l refl)) (at-run .run .ensures)
 
 pub apply-spec : {M : Type 1} → statement M
 apply-spec =

@@ -7,10 +7,14 @@ interrupt-line-requires : tie.Need-interrupt-line-requires
 interrupt-line-requires c κs = search needs
 
 returns : tie.Need-returns
-returns c = λ v x. rw (c .if1 .taken) at (c .before .before .interrupt-line .ensures v x)
+returns c =
+    let at-interrupt-line = c .before in
+    λ v x. rw (c .if1 .taken) at (at-interrupt-line .interrupt-line .ensures v x)
 
 returns-2 : tie.Need-returns-2
-returns-2 c = λ v x. rw (c .if1 .left) at (c .before .before .interrupt-line .ensures v x)
+returns-2 c =
+    let at-interrupt-line = c .before in
+    λ v x. rw (c .if1 .left) at (at-interrupt-line .interrupt-line .ensures v x)
 
 pub line-spec : {M : Type 1} → statement M
 line-spec = tie.close (tie.spec interrupt-line-requires returns returns-2)

@@ -13,7 +13,9 @@ wide-requires : tie.Need-wide-requires
 wide-requires c κs = search needs
 
 returns : tie.Need-returns
-returns c = rw (c .wide .ensures) (c .before .before .read-byte .ensures)
+returns c =
+    let at-read-byte = c .before in
+    rw (c .wide .ensures) (at-read-byte .read-byte .ensures .0)
 
 pub read-spec : {M : Type 1} → statement M
 read-spec = tie.close (tie.spec cast-reg read-byte-requires wide-requires returns)

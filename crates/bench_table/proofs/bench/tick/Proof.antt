@@ -1,14 +1,14 @@
--- Each turn leaves one tick less.
+-- As many turns as there are ticks.
 use Prim.Native.Nat.{_≤_}
 use borrow.Author.Needs.{needs}
-use Rattle.bench_table.proofs.bench.ticked.Statement.{statement}
-use Rattle.bench_table.proofs.bench.ticked.Tie as tie
+use Rattle.bench_table.proofs.bench.tick.Statement.{statement}
+use Rattle.bench_table.proofs.bench.tick.Tie as tie
 
 abbrev Inv-loop : tie.InvT-loop
-Inv-loop ticks t₀ left₀ t left = left ≤ ticks
+Inv-loop s₀ ticks left₀ s left = left ≤ ticks
 
 abbrev μ-loop : tie.MeasureT-loop
-μ-loop ticks t₀ left₀ t left = left
+μ-loop s₀ ticks left₀ s left = left
 
 loop-holds : tie.Need-loop-holds Inv-loop μ-loop
 loop-holds c = search needs
@@ -28,15 +28,7 @@ loop-again c = search needs
 returns : tie.Need-returns Inv-loop μ-loop
 returns c = search needs
 
-pub ticked-spec : {M : Type 1} → statement M
-ticked-spec =
+pub tick-spec : {M : Type 1} → statement M
+tick-spec =
     tie.close
-    (tie.spec
-    Inv-loop
-    μ-loop
-    loop-holds
-    timer-tick-requires
-    sub-left
-    loop-less
-    loop-again
-    returns)
+    (tie.spec Inv-loop μ-loop loop-holds timer-tick-requires sub-left loop-less loop-again returns)
