@@ -54,7 +54,7 @@ test: test-c test-rust
 # Runs $(1) and prints its last line, or all that did not go well.
 run_tests = $(1) >$(2) 2>&1 || { grep -v -e ' RUN ' -e ' OK ' $(2); exit 1; }; tail -n 1 $(2)
 
-test-c: build/plain/tests build/sanitized/tests build/cross build/first_test
+test-c: build/plain/tests build/sanitized/tests build/cross build/first_test build/calls
 	@printf 'plain: '
 	@$(call run_tests,build/plain/tests,build/plain/log)
 	@printf 'AddressSanitizer and UBSan: '
@@ -65,6 +65,7 @@ test-c: build/plain/tests build/sanitized/tests build/cross build/first_test
 	@echo "examples/cross shows the fault as in examples/cross/fault.txt"
 	@printf 'docs/FIRMWARE.md: '
 	@build/first_test
+	@build/calls && echo "docs/CALLS.md: the examples hold"
 
 build/plain/tests: $(call OBJECTS,plain) $(LIB)
 	@echo "  link $@"; $(CXX) -o $@ $^ -lcmocka
@@ -87,6 +88,12 @@ build/first_test.c: docs/FIRMWARE.md | build
 build/first_test: build/first_test.c $(HEADER) $(LIB)
 	@echo "  cc $<"; $(CC) $(CFLAGS) -o $@ $< $(LIB)
 
+# The examples of docs/CALLS.md, one program.
+build/calls.c: docs/CALLS.md | build
+	@awk '/^```/ { inside = /^```c/; next } inside' $< >$@
+build/calls: build/calls.c $(HEADER) $(LIB)
+	@echo "  cc $<"; $(CC) $(CFLAGS) -o $@ $< $(LIB)
+
 build build/plain build/sanitized:
 	@mkdir -p $@
 
@@ -97,7 +104,7 @@ test-rust: $(LIB) | build
 	@awk '/^test result/ { n += $$4 } END { print "Rust tests: " n " passed, 0 failed" }' build/rust.log
 
 bench: $(LIB)
-	@cd tests/rust && cargo run --release --quiet --bin bench
+	@cd tests/rust && cargo run --profile bench --quiet --bin bench
 
 clean:
 	rm -rf build

@@ -189,14 +189,14 @@
  * Part 2: the library
  * --------------------------------------------------------------------------------------------- */
 
-/* What a call can say. The lowest number that applies is given. A refused call hands back the state
- * as it was given and changes no lent word; a refused read gives byte 0, a refused step or run
+/* What a call can say. The lowest number that applies is given. A refused call leaves every word of
+ * the state and of both memories as it was; a refused read gives byte 0, a refused step or run
  * count 0, a refused line question no. */
 typedef enum xosera_refusal {
     XOSERA_DONE = 0,
     XOSERA_VRAM_LENGTH = 1,  /* VRAM is not a power of two of words from 256 to 65,536 */
     XOSERA_XR_LENGTH = 2,    /* XR memory is not 6,656 words */
-    XOSERA_STATE_RANGE = 3,  /* a part of the state is out of its range */
+    XOSERA_STATE_RANGE = 3,  /* a word of the state is out of its range */
     XOSERA_NO_REGISTER = 4,  /* register number over 15 */
     XOSERA_BLITTER_FULL = 5, /* blitter register written while a blit is queued */
     XOSERA_RECONFIGURE = 6   /* XM_INT_CTRL written with bit 15 set */
@@ -216,7 +216,7 @@ typedef struct xosera_timer {
     uint16_t count;
     uint16_t countdown; /* 1 to interval, or both 0 */
     uint16_t interval;
-    uint8_t saved; /* low byte of count at the last even read */
+    uint16_t saved; /* low byte of count at the last even read; at most 255 */
 } xosera_timer;
 
 /* XM_RD_XADDR, XM_WR_XADDR and the word that XM_XDATA reads next. */
@@ -233,16 +233,16 @@ typedef struct xosera_vram_port {
     uint16_t wr_incr;
     xosera_vram_addr wr_addr;
     uint16_t rd_data;
-    uint8_t wr_mask; /* at most 15 */
+    uint16_t wr_mask; /* at most 15 */
 } xosera_vram_port;
 
 /* The main registers, the interrupt status apart. */
 typedef struct xosera_host {
-    uint8_t latch[XOSERA_MAIN_REGS]; /* high byte of each register, as last written */
+    uint16_t latch[XOSERA_MAIN_REGS]; /* high byte of each register, at most 255 */
     xosera_xr_port xr;
     xosera_vram_port vram;
     xosera_timer timer;
-    uint8_t int_mask; /* at most 127 */
+    uint16_t int_mask; /* at most 127 */
 } xosera_host;
 
 /* The stored XR registers 0x00 to 0x05, 0x10 to 0x16 and 0x18 to 0x1E. */
@@ -272,18 +272,22 @@ typedef struct xosera_blit_regs {
 
 /* The running blit. All of it is 0 when the engine is idle. */
 typedef struct xosera_engine {
-    bool running;
-    uint16_t line; /* the line and the word that come next, from 0 */
+    uint16_t running; /* 0 or 1 */
+    uint16_t line;    /* the line and the word that come next, from 0 */
     uint16_t word;
     uint16_t kept;         /* source word before, for the shifter; 0 on a line's first word */
     xosera_blit_regs regs; /* as copied, lines mod 32,768; src_s and dst_d move on in place */
 } xosera_engine;
 
-/* The whole state of the adapter but for its memories. A plain value: copy it to save it. */
+/* The whole state of the adapter but for its memories: 75 words, flags and bytes too, and no
+ * padding. It may be copied, kept, compared with memcmp and read from a file: equal states are
+ * equal memory. Words that no adapter can have, from a bad file or in a handle that was never
+ * attached, are refused with 3, never misread. */
+#define XOSERA_STATE_WORDS 75
 typedef struct xosera_state {
     xosera_host host;
-    bool queued;    /* only while running: the blitter is full */
-    uint8_t status; /* interrupt status, at most 127 */
+    uint16_t queued; /* 0 or 1, 1 only while running: the blitter is full */
+    uint16_t status; /* interrupt status, at most 127 */
     xosera_engine engine;
     xosera_video video;
     xosera_blit_regs blit; /* as the host wrote them; a queued blit waits here */
@@ -291,29 +295,24 @@ typedef struct xosera_state {
 
 /* Answers: `refusal` is one of xosera_refusal. */
 typedef struct xosera_write_answer {
-    xosera_state state;
     uint8_t refusal;
 } xosera_write_answer;
 
 typedef struct xosera_read_answer {
-    xosera_state state;
     uint8_t refusal;
     uint8_t byte;
 } xosera_read_answer;
 
 typedef struct xosera_blit_answer {
-    xosera_state state;
     uint8_t refusal;
     uint64_t count; /* words done */
 } xosera_blit_answer;
 
 typedef struct xosera_state_answer {
-    xosera_state state;
     uint8_t refusal;
 } xosera_state_answer;
 
 typedef struct xosera_line_answer {
-    xosera_state state;
     uint8_t refusal;
     bool up;
 } xosera_line_answer;
@@ -327,112 +326,108 @@ typedef struct xosera_line_answer {
 #define XOSERA_SIZE(type, bytes) XOSERA_ASSERT(sizeof(type) == (bytes), "size of " #type)
 #define XOSERA_AT(type, field, at)                                                                 \
     XOSERA_ASSERT(offsetof(type, field) == (at), "place of " #field " in " #type)
+#define XOSERA_WORD(number, field)                                                                 \
+    XOSERA_ASSERT(offsetof(xosera_state, field) == 2 * (number) &&                                 \
+                      sizeof(((xosera_state *)0)->field) == 2,                                     \
+                  "word " #number " of the state is " #field)
 
 XOSERA_SIZE(bool, 1);
 XOSERA_SIZE(size_t, 8);
-XOSERA_SIZE(xosera_vram_addr, 2);
-XOSERA_SIZE(xosera_xr_addr, 2);
+XOSERA_SIZE(xosera_state, 2 * XOSERA_STATE_WORDS);
+XOSERA_WORD(0, host.latch[0]);
+XOSERA_WORD(15, host.latch[15]);
+XOSERA_WORD(16, host.xr.rd_xaddr.word);
+XOSERA_WORD(17, host.xr.wr_xaddr.word);
+XOSERA_WORD(18, host.xr.rd_xdata);
+XOSERA_WORD(19, host.vram.rd_incr);
+XOSERA_WORD(20, host.vram.rd_addr.word);
+XOSERA_WORD(21, host.vram.wr_incr);
+XOSERA_WORD(22, host.vram.wr_addr.word);
+XOSERA_WORD(23, host.vram.rd_data);
+XOSERA_WORD(24, host.vram.wr_mask);
+XOSERA_WORD(25, host.timer.count);
+XOSERA_WORD(26, host.timer.countdown);
+XOSERA_WORD(27, host.timer.interval);
+XOSERA_WORD(28, host.timer.saved);
+XOSERA_WORD(29, host.int_mask);
+XOSERA_WORD(30, queued);
+XOSERA_WORD(31, status);
+XOSERA_WORD(32, engine.running);
+XOSERA_WORD(33, engine.line);
+XOSERA_WORD(34, engine.word);
+XOSERA_WORD(35, engine.kept);
+XOSERA_WORD(36, engine.regs.ctrl);
+XOSERA_WORD(37, engine.regs.andc);
+XOSERA_WORD(38, engine.regs.xor_);
+XOSERA_WORD(39, engine.regs.mod_s);
+XOSERA_WORD(40, engine.regs.src_s);
+XOSERA_WORD(41, engine.regs.mod_d);
+XOSERA_WORD(42, engine.regs.dst_d);
+XOSERA_WORD(43, engine.regs.shift);
+XOSERA_WORD(44, engine.regs.lines);
+XOSERA_WORD(45, engine.regs.words);
+XOSERA_WORD(46, video.vid_ctrl);
+XOSERA_WORD(47, video.copp_ctrl);
+XOSERA_WORD(48, video.aud_ctrl);
+XOSERA_WORD(49, video.vid_left);
+XOSERA_WORD(50, video.vid_right);
+XOSERA_WORD(51, video.pa[0]);
+XOSERA_WORD(57, video.pa[6]);
+XOSERA_WORD(58, video.pb[0]);
+XOSERA_WORD(64, video.pb[6]);
+XOSERA_WORD(65, blit.ctrl);
+XOSERA_WORD(66, blit.andc);
+XOSERA_WORD(67, blit.xor_);
+XOSERA_WORD(68, blit.mod_s);
+XOSERA_WORD(69, blit.src_s);
+XOSERA_WORD(70, blit.mod_d);
+XOSERA_WORD(71, blit.dst_d);
+XOSERA_WORD(72, blit.shift);
+XOSERA_WORD(73, blit.lines);
+XOSERA_WORD(74, blit.words);
 
-XOSERA_SIZE(xosera_timer, 8);
-XOSERA_AT(xosera_timer, count, 0);
-XOSERA_AT(xosera_timer, countdown, 2);
-XOSERA_AT(xosera_timer, interval, 4);
-XOSERA_AT(xosera_timer, saved, 6);
-
-XOSERA_SIZE(xosera_xr_port, 6);
-XOSERA_AT(xosera_xr_port, rd_xaddr, 0);
-XOSERA_AT(xosera_xr_port, wr_xaddr, 2);
-XOSERA_AT(xosera_xr_port, rd_xdata, 4);
-
-XOSERA_SIZE(xosera_vram_port, 12);
-XOSERA_AT(xosera_vram_port, rd_incr, 0);
-XOSERA_AT(xosera_vram_port, rd_addr, 2);
-XOSERA_AT(xosera_vram_port, wr_incr, 4);
-XOSERA_AT(xosera_vram_port, wr_addr, 6);
-XOSERA_AT(xosera_vram_port, rd_data, 8);
-XOSERA_AT(xosera_vram_port, wr_mask, 10);
-
-XOSERA_SIZE(xosera_host, 44);
-XOSERA_AT(xosera_host, timer, 34);
-XOSERA_AT(xosera_host, xr, 16);
-XOSERA_AT(xosera_host, vram, 22);
-XOSERA_AT(xosera_host, int_mask, 42);
-XOSERA_AT(xosera_host, latch, 0);
-
-XOSERA_SIZE(xosera_video, 38);
-XOSERA_AT(xosera_video, vid_ctrl, 0);
-XOSERA_AT(xosera_video, copp_ctrl, 2);
-XOSERA_AT(xosera_video, aud_ctrl, 4);
-XOSERA_AT(xosera_video, vid_left, 6);
-XOSERA_AT(xosera_video, vid_right, 8);
-XOSERA_AT(xosera_video, pa, 10);
-XOSERA_AT(xosera_video, pb, 24);
-
-XOSERA_SIZE(xosera_blit_regs, 20);
-XOSERA_AT(xosera_blit_regs, ctrl, 0);
-XOSERA_AT(xosera_blit_regs, andc, 2);
-XOSERA_AT(xosera_blit_regs, xor_, 4);
-XOSERA_AT(xosera_blit_regs, mod_s, 6);
-XOSERA_AT(xosera_blit_regs, src_s, 8);
-XOSERA_AT(xosera_blit_regs, mod_d, 10);
-XOSERA_AT(xosera_blit_regs, dst_d, 12);
-XOSERA_AT(xosera_blit_regs, shift, 14);
-XOSERA_AT(xosera_blit_regs, lines, 16);
-XOSERA_AT(xosera_blit_regs, words, 18);
-
-XOSERA_SIZE(xosera_engine, 28);
-XOSERA_AT(xosera_engine, running, 0);
-XOSERA_AT(xosera_engine, line, 2);
-XOSERA_AT(xosera_engine, word, 4);
-XOSERA_AT(xosera_engine, kept, 6);
-XOSERA_AT(xosera_engine, regs, 8);
-
-XOSERA_SIZE(xosera_state, 132);
-XOSERA_AT(xosera_state, host, 0);
-XOSERA_AT(xosera_state, video, 74);
-XOSERA_AT(xosera_state, blit, 112);
-XOSERA_AT(xosera_state, engine, 46);
-XOSERA_AT(xosera_state, queued, 44);
-XOSERA_AT(xosera_state, status, 45);
-
-XOSERA_SIZE(xosera_write_answer, 134);
-XOSERA_AT(xosera_write_answer, refusal, 132);
-XOSERA_SIZE(xosera_read_answer, 134);
-XOSERA_AT(xosera_read_answer, refusal, 132);
-XOSERA_AT(xosera_read_answer, byte, 133);
-XOSERA_SIZE(xosera_blit_answer, 144);
-XOSERA_AT(xosera_blit_answer, refusal, 132);
-XOSERA_AT(xosera_blit_answer, count, 136);
-XOSERA_SIZE(xosera_state_answer, 134);
-XOSERA_AT(xosera_state_answer, refusal, 132);
-XOSERA_SIZE(xosera_line_answer, 134);
-XOSERA_AT(xosera_line_answer, refusal, 132);
-XOSERA_AT(xosera_line_answer, up, 133);
+XOSERA_SIZE(xosera_write_answer, 1);
+XOSERA_AT(xosera_write_answer, refusal, 0);
+XOSERA_SIZE(xosera_read_answer, 2);
+XOSERA_AT(xosera_read_answer, refusal, 0);
+XOSERA_AT(xosera_read_answer, byte, 1);
+XOSERA_SIZE(xosera_blit_answer, 16);
+XOSERA_AT(xosera_blit_answer, refusal, 0);
+XOSERA_AT(xosera_blit_answer, count, 8);
+XOSERA_SIZE(xosera_state_answer, 1);
+XOSERA_AT(xosera_state_answer, refusal, 0);
+XOSERA_SIZE(xosera_line_answer, 2);
+XOSERA_AT(xosera_line_answer, refusal, 0);
+XOSERA_AT(xosera_line_answer, up, 1);
 
 #ifdef __cplusplus
 extern "C" {
 #endif
 
-/* The state after reset: all 0 but the nibble mask, 15, and XR_VID_RIGHT, 640. */
-xosera_state xosera_reset(void);
+/* State and memories are lent for the one call, and changed in place. State, VRAM and XR memory
+ * must not overlap one another. Lengths are in words. */
+
+/* Reset fills all words of the state: 0 but the nibble mask, 15, and XR_VID_RIGHT, 640. */
+void xosera_reset(xosera_state *s);
 
 /* The host writes or reads one byte of main register `reg`: the high byte at the even address
- * (odd = false), the low byte at the odd one (odd = true). Lengths are in words. */
-xosera_write_answer xosera_write_byte(xosera_state s, uint16_t *vram, size_t vram_len, uint16_t *xr,
-                                      size_t xr_len, uint8_t reg, bool odd, uint8_t byte);
-xosera_read_answer xosera_read_byte(xosera_state s, const uint16_t *vram, size_t vram_len,
+ * (odd = false), the low byte at the odd one (odd = true). */
+xosera_write_answer xosera_write_byte(xosera_state *s, uint16_t *vram, size_t vram_len,
+                                      uint16_t *xr, size_t xr_len, uint8_t reg, bool odd,
+                                      uint8_t byte);
+xosera_read_answer xosera_read_byte(xosera_state *s, const uint16_t *vram, size_t vram_len,
                                     const uint16_t *xr, size_t xr_len, uint8_t reg, bool odd);
 
 /* The blitter does one word, or up to `n` words; a queued blit follows on the running one. */
-xosera_blit_answer xosera_blit_step(xosera_state s, uint16_t *vram, size_t vram_len,
+xosera_blit_answer xosera_blit_step(xosera_state *s, uint16_t *vram, size_t vram_len,
                                     const uint16_t *xr, size_t xr_len);
-xosera_blit_answer xosera_blit_run(xosera_state s, uint16_t *vram, size_t vram_len,
+xosera_blit_answer xosera_blit_run(xosera_state *s, uint16_t *vram, size_t vram_len,
                                    const uint16_t *xr, size_t xr_len, uint64_t n);
 
 /* A tenth of a millisecond passes; the visible picture ends; is the interrupt line up? */
-xosera_state_answer xosera_timer_tick(xosera_state s);
-xosera_state_answer xosera_frame_end(xosera_state s);
-xosera_line_answer xosera_interrupt_line(xosera_state s);
+xosera_state_answer xosera_timer_tick(xosera_state *s);
+xosera_state_answer xosera_frame_end(xosera_state *s);
+xosera_line_answer xosera_interrupt_line(const xosera_state *s);
 
 #ifdef __cplusplus
 }
@@ -492,7 +487,7 @@ static inline void xosera_attach(xosera *x, uint16_t *vram, size_t vram_len, uin
                                  size_t xr_len)
 {
     static const xosera_refused none = {XOSERA_DONE, XOSERA_CALL_WRITE, 0, false, 0, NULL, 0};
-    x->state = xosera_reset();
+    xosera_reset(&x->state);
     x->vram = vram;
     x->vram_len = vram_len;
     x->xr = xr;
@@ -575,38 +570,34 @@ static inline void xosera_note(xosera *x, uint8_t refusal, xosera_call call, uin
 static inline uint64_t xosera_run(xosera *x, uint64_t n)
 {
     const xosera_blit_answer a =
-        xosera_blit_run(x->state, x->vram, x->vram_len, x->xr, x->xr_len, n);
-    x->state = a.state;
+        xosera_blit_run(&x->state, x->vram, x->vram_len, x->xr, x->xr_len, n);
     xosera_note(x, a.refusal, XOSERA_CALL_RUN, 0, false, 0);
     return a.count;
 }
 
 static inline uint64_t xosera_step(xosera *x)
 {
-    const xosera_blit_answer a = xosera_blit_step(x->state, x->vram, x->vram_len, x->xr, x->xr_len);
-    x->state = a.state;
+    const xosera_blit_answer a =
+        xosera_blit_step(&x->state, x->vram, x->vram_len, x->xr, x->xr_len);
     xosera_note(x, a.refusal, XOSERA_CALL_STEP, 0, false, 0);
     return a.count;
 }
 
 static inline void xosera_tick(xosera *x)
 {
-    const xosera_state_answer a = xosera_timer_tick(x->state);
-    x->state = a.state;
+    const xosera_state_answer a = xosera_timer_tick(&x->state);
     xosera_note(x, a.refusal, XOSERA_CALL_TICK, 0, false, 0);
 }
 
 static inline void xosera_frame(xosera *x)
 {
-    const xosera_state_answer a = xosera_frame_end(x->state);
-    x->state = a.state;
+    const xosera_state_answer a = xosera_frame_end(&x->state);
     xosera_note(x, a.refusal, XOSERA_CALL_FRAME_END, 0, false, 0);
 }
 
 static inline bool xosera_line_up(xosera *x)
 {
-    const xosera_line_answer a = xosera_interrupt_line(x->state);
-    x->state = a.state;
+    const xosera_line_answer a = xosera_interrupt_line(&x->state);
     xosera_note(x, a.refusal, XOSERA_CALL_LINE, 0, false, 0);
     return a.up;
 }
@@ -639,8 +630,7 @@ static inline void xosera_wait_blit_ready(xosera *x)
 static inline void xosera_set_byte(xosera *x, uint8_t reg, bool odd, uint8_t byte)
 {
     const xosera_write_answer a =
-        xosera_write_byte(x->state, x->vram, x->vram_len, x->xr, x->xr_len, reg, odd, byte);
-    x->state = a.state;
+        xosera_write_byte(&x->state, x->vram, x->vram_len, x->xr, x->xr_len, reg, odd, byte);
     xosera_note(x, a.refusal, XOSERA_CALL_WRITE, reg, odd, byte);
     if (x->blit_per_access != 0) {
         (void)xosera_run(x, x->blit_per_access);
@@ -650,8 +640,7 @@ static inline void xosera_set_byte(xosera *x, uint8_t reg, bool odd, uint8_t byt
 static inline uint8_t xosera_get_byte(xosera *x, uint8_t reg, bool odd)
 {
     const xosera_read_answer a =
-        xosera_read_byte(x->state, x->vram, x->vram_len, x->xr, x->xr_len, reg, odd);
-    x->state = a.state;
+        xosera_read_byte(&x->state, x->vram, x->vram_len, x->xr, x->xr_len, reg, odd);
     xosera_note(x, a.refusal, XOSERA_CALL_READ, reg, odd, 0);
     if (x->blit_per_access != 0) {
         (void)xosera_run(x, x->blit_per_access);

@@ -8,6 +8,7 @@ int main(void)
     failed += rules_group(&tests);
     failed += edges_group(&tests);
     failed += refusals_group(&tests);
+    failed += ranges_group(&tests);
     failed += queue_group(&tests);
     failed += order_group(&tests);
     failed += layout_group(&tests);

@@ -169,7 +169,7 @@ static void a_state_can_be_saved_and_put_back(void **state)
     xm_setw(WR_ADDR, 0x0456);
     x->state = saved;
     assert_int_equal(xm_getw(WR_ADDR), 0x0123);
-    x->state = xosera_reset();
+    xosera_reset(&x->state);
     assert_int_equal(xm_getw(WR_ADDR), 0x0000);
 }
 

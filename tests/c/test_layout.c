@@ -1,6 +1,7 @@
-/* The header against the library. Nothing else checks that both mean the same bytes by a field. */
+/* The header against the library. Nothing else checks that both mean the same word by a field. */
 #include "tests.h"
 
+/* The fields in the order of their words. */
 typedef struct field {
     const char *name;
     size_t at, size;
@@ -10,113 +11,116 @@ typedef struct field {
 #define FIELD(path) {#path, offsetof(xosera_state, path), sizeof(((xosera_state *)0)->path)}
 
 static const field fields[] = {
-    FIELD(host.timer.count),     FIELD(host.timer.countdown),   FIELD(host.timer.interval),
-    FIELD(host.timer.saved),     FIELD(host.xr.rd_xaddr),       FIELD(host.xr.wr_xaddr),
-    FIELD(host.xr.rd_xdata),     FIELD(host.vram.rd_incr),      FIELD(host.vram.rd_addr),
-    FIELD(host.vram.wr_incr),    FIELD(host.vram.wr_addr),      FIELD(host.vram.rd_data),
-    FIELD(host.vram.wr_mask),    FIELD(host.int_mask),          FIELD(host.latch),
-    FIELD(video.vid_ctrl),       FIELD(video.copp_ctrl),        FIELD(video.aud_ctrl),
-    FIELD(video.vid_left),       FIELD(video.vid_right),        FIELD(video.pa),
-    FIELD(video.pb),             FIELD(blit.ctrl),              FIELD(blit.andc),
-    FIELD(blit.xor_),            FIELD(blit.mod_s),             FIELD(blit.src_s),
-    FIELD(blit.mod_d),           FIELD(blit.dst_d),             FIELD(blit.shift),
-    FIELD(blit.lines),           FIELD(blit.words),             FIELD(engine.running),
-    FIELD(engine.line),          FIELD(engine.word),            FIELD(engine.kept),
-    FIELD(engine.regs.ctrl),     FIELD(engine.regs.andc),       FIELD(engine.regs.xor_),
-    FIELD(engine.regs.mod_s),    FIELD(engine.regs.src_s),      FIELD(engine.regs.mod_d),
-    FIELD(engine.regs.dst_d),    FIELD(engine.regs.shift),      FIELD(engine.regs.lines),
-    FIELD(engine.regs.words),    FIELD(queued),                 FIELD(status),
+    FIELD(host.latch[0]), FIELD(host.latch[1]), FIELD(host.latch[2]), FIELD(host.latch[3]),
+    FIELD(host.latch[4]), FIELD(host.latch[5]), FIELD(host.latch[6]), FIELD(host.latch[7]),
+    FIELD(host.latch[8]), FIELD(host.latch[9]), FIELD(host.latch[10]), FIELD(host.latch[11]),
+    FIELD(host.latch[12]), FIELD(host.latch[13]), FIELD(host.latch[14]), FIELD(host.latch[15]),
+    FIELD(host.xr.rd_xaddr.word), FIELD(host.xr.wr_xaddr.word), FIELD(host.xr.rd_xdata),
+    FIELD(host.vram.rd_incr), FIELD(host.vram.rd_addr.word), FIELD(host.vram.wr_incr),
+    FIELD(host.vram.wr_addr.word), FIELD(host.vram.rd_data), FIELD(host.vram.wr_mask),
+    FIELD(host.timer.count), FIELD(host.timer.countdown), FIELD(host.timer.interval),
+    FIELD(host.timer.saved), FIELD(host.int_mask), FIELD(queued), FIELD(status),
+    FIELD(engine.running), FIELD(engine.line), FIELD(engine.word), FIELD(engine.kept),
+    FIELD(engine.regs.ctrl), FIELD(engine.regs.andc), FIELD(engine.regs.xor_),
+    FIELD(engine.regs.mod_s), FIELD(engine.regs.src_s), FIELD(engine.regs.mod_d),
+    FIELD(engine.regs.dst_d), FIELD(engine.regs.shift), FIELD(engine.regs.lines),
+    FIELD(engine.regs.words), FIELD(video.vid_ctrl), FIELD(video.copp_ctrl), FIELD(video.aud_ctrl),
+    FIELD(video.vid_left), FIELD(video.vid_right), FIELD(video.pa[0]), FIELD(video.pa[1]),
+    FIELD(video.pa[2]), FIELD(video.pa[3]), FIELD(video.pa[4]), FIELD(video.pa[5]),
+    FIELD(video.pa[6]), FIELD(video.pb[0]), FIELD(video.pb[1]), FIELD(video.pb[2]),
+    FIELD(video.pb[3]), FIELD(video.pb[4]), FIELD(video.pb[5]), FIELD(video.pb[6]),
+    FIELD(blit.ctrl), FIELD(blit.andc), FIELD(blit.xor_), FIELD(blit.mod_s), FIELD(blit.src_s),
+    FIELD(blit.mod_d), FIELD(blit.dst_d), FIELD(blit.shift), FIELD(blit.lines), FIELD(blit.words),
 };
 /* clang-format on */
-enum { FIELDS = sizeof fields / sizeof fields[0], PADDING = 4 };
+enum { FIELDS = sizeof fields / sizeof fields[0] };
 
 void assert_state_equal(const xosera_state *got, const xosera_state *want)
 {
+    uint16_t g[XOSERA_STATE_WORDS], w[XOSERA_STATE_WORDS];
+    memcpy(g, got, sizeof g);
+    memcpy(w, want, sizeof w);
     for (size_t i = 0; i < FIELDS; i++) {
-        const uint8_t *g = (const uint8_t *)got + fields[i].at;
-        const uint8_t *w = (const uint8_t *)want + fields[i].at;
-        for (size_t b = 0; b < fields[i].size; b++) {
-            if (g[b] != w[b]) {
-                fail_msg("%s, byte %zu: %02X, should be %02X", fields[i].name, b, (unsigned)g[b],
-                         (unsigned)w[b]);
-            }
+        if (g[i] != w[i]) {
+            fail_msg("%s, word %zu: %04X, should be %04X", fields[i].name, i, (unsigned)g[i],
+                     (unsigned)w[i]);
         }
     }
 }
 
-/* Every byte of every field different from all others, the two bools apart. */
-static xosera_state every_byte_different(void)
+static void the_table_names_every_word_once(void **state)
 {
-    xosera_state s;
-    uint8_t next = 2;
-    memset(&s, 0, sizeof s);
+    (void)state;
+    assert_int_equal(FIELDS, XOSERA_STATE_WORDS);
+    assert_int_equal(sizeof(xosera_state), 2 * XOSERA_STATE_WORDS);
     for (size_t i = 0; i < FIELDS; i++) {
-        for (size_t b = 0; b < fields[i].size; b++) {
-            ((uint8_t *)&s)[fields[i].at + b] = next++;
-        }
+        assert_int_equal(fields[i].at, 2 * i);
+        assert_int_equal(fields[i].size, 2);
     }
-    const bool yes = true;
-    memcpy(&s.engine.running, &yes, 1);
-    memcpy(&s.queued, &yes, 1);
+}
+
+/* Words by number, all different: a byte of its own in each half. */
+static void number_the_words(uint16_t *words)
+{
+    for (unsigned i = 0; i < XOSERA_STATE_WORDS; i++) {
+        words[i] = (uint16_t)((i + 1) << 8 | (0xFF - i));
+    }
+}
+
+static xosera_state every_word_different(void)
+{
+    uint16_t words[XOSERA_STATE_WORDS];
+    xosera_state s;
+    number_the_words(words);
+    memcpy(&s, words, sizeof s);
     return s;
 }
 
-static void the_table_names_every_byte_once(void **state)
+/* A refused call leaves the state as it was, and touches nothing beside it. */
+static void a_refused_call_leaves_every_word(void **state)
 {
-    (void)state;
-    uint8_t seen[sizeof(xosera_state)] = {0};
-    size_t bytes = 0;
-    for (size_t i = 0; i < FIELDS; i++) {
-        for (size_t b = 0; b < fields[i].size; b++) {
-            assert_int_equal(seen[fields[i].at + b]++, 0);
-            bytes++;
-        }
-    }
-    assert_int_equal(bytes + PADDING, sizeof(xosera_state));
+    xosera *x = (xosera *)*state;
+    const xosera_state s = every_word_different();
+    assert_refused(x, &s, 1, 1, 3, XOSERA_VRAM_LENGTH);
+    assert_refused(x, &s, x->vram_len, 1, 3, XOSERA_XR_LENGTH);
+    assert_refused(x, &s, x->vram_len, x->xr_len, 3, XOSERA_STATE_RANGE);
 }
 
-/* A refused call hands the state back as it was: every byte passes in and out. */
-static void every_byte_passes_through_every_call(void **state)
+/* Reset fills the 75 words and no other. */
+static void reset_is_as_the_header_says(void **state)
 {
     (void)state;
-    const xosera_state s = every_byte_different();
-    uint16_t none = 0;
-    const xosera_write_answer w = xosera_write_byte(s, &none, 1, &none, 1, 3, true, 9);
-    assert_int_equal(w.refusal, XOSERA_VRAM_LENGTH);
-    assert_state_equal(&w.state, &s);
-    const xosera_read_answer r = xosera_read_byte(s, &none, 1, &none, 1, 3, true);
-    assert_int_equal(r.refusal, XOSERA_VRAM_LENGTH);
-    assert_int_equal(r.byte, 0);
-    assert_state_equal(&r.state, &s);
-    const xosera_blit_answer b = xosera_blit_step(s, &none, 1, &none, 1);
-    assert_int_equal(b.refusal, XOSERA_VRAM_LENGTH);
-    assert_int_equal(b.count, 0);
-    assert_state_equal(&b.state, &s);
-    const xosera_blit_answer n = xosera_blit_run(s, &none, 1, &none, 1, 0x0123456789ABCDEF);
-    assert_int_equal(n.refusal, XOSERA_VRAM_LENGTH);
-    assert_int_equal(n.count, 0);
-    assert_state_equal(&n.state, &s);
-    const xosera_state_answer t = xosera_timer_tick(s);
-    assert_int_equal(t.refusal, XOSERA_STATE_RANGE);
-    assert_state_equal(&t.state, &s);
-    const xosera_state_answer f = xosera_frame_end(s);
-    assert_int_equal(f.refusal, XOSERA_STATE_RANGE);
-    assert_state_equal(&f.state, &s);
-    const xosera_line_answer l = xosera_interrupt_line(s);
-    assert_int_equal(l.refusal, XOSERA_STATE_RANGE);
-    assert_false(l.up);
-    assert_state_equal(&l.state, &s);
+    struct {
+        uint16_t before;
+        xosera_state s;
+        uint16_t after;
+    } got;
+    uint16_t words[XOSERA_STATE_WORDS] = {0};
+    words[24] = 15;
+    words[50] = 640;
+    memset(&got, 0xA5, sizeof got);
+    xosera_reset(&got.s);
+    assert_memory_equal(&got.s, words, sizeof words);
+    assert_int_equal(got.before, 0xA5A5);
+    assert_int_equal(got.after, 0xA5A5);
+    assert_int_equal(got.s.host.vram.wr_mask, 15);
+    assert_int_equal(got.s.video.vid_right, 640);
 }
 
 /* The same state brought into its ranges, the blitter running in mid-line; still all different. */
 static xosera_state in_range(void)
 {
-    xosera_state s = every_byte_different();
+    xosera_state s = every_word_different();
+    for (int reg = 0; reg < XOSERA_MAIN_REGS; reg++) {
+        s.host.latch[reg] &= 0xFF;
+    }
+    s.host.timer.saved &= 0xFF;
     s.host.timer.countdown = 0x0203;
     s.host.vram.wr_mask = 9;
-    s.queued = false;
-    s.status = 0x05;
     s.host.int_mask = 0x2A;
+    s.queued = 0;
+    s.status = 0x05;
+    s.engine.running = 1;
     s.engine.line = 0x0111;
     s.engine.word = 0x0222;
     s.engine.regs.ctrl = 0x3D20; /* VRAM source, no colour test */
@@ -231,7 +235,7 @@ static void main_registers_are_read_from_their_place(void **state)
     assert_int_equal(xosera_get_byte(x, XM_TIMER, true), s.host.timer.saved);
     assert_state_equal(&x->state, &want);
     (void)xosera_get_byte(x, XM_TIMER, false);
-    want.host.timer.saved = (uint8_t)s.host.timer.count;
+    want.host.timer.saved = s.host.timer.count & 0xFF;
     assert_state_equal(&x->state, &want);
 
     want = x->state = s;
@@ -253,31 +257,29 @@ static void timer_and_status_are_in_their_place(void **state)
     xosera_state s = in_range(), want = s;
     want.host.timer.count++;
     want.host.timer.countdown--;
-    xosera_state_answer a = xosera_timer_tick(s);
-    assert_int_equal(a.refusal, XOSERA_DONE);
-    assert_state_equal(&a.state, &want);
+    assert_int_equal(xosera_timer_tick(&s).refusal, XOSERA_DONE);
+    assert_state_equal(&s, &want);
 
-    s.host.timer.countdown = 1;
-    want = s;
     want.host.timer.count++;
     want.host.timer.countdown = s.host.timer.interval;
     want.status |= INT_CTRL_TIMER_INTR_F;
-    a = xosera_timer_tick(s);
-    assert_state_equal(&a.state, &want);
+    s.host.timer.countdown = 1;
+    assert_int_equal(xosera_timer_tick(&s).refusal, XOSERA_DONE);
+    assert_state_equal(&s, &want);
 
-    want = s;
     want.status |= INT_CTRL_VIDEO_INTR_F;
-    a = xosera_frame_end(s);
-    assert_int_equal(a.refusal, XOSERA_DONE);
-    assert_state_equal(&a.state, &want);
+    assert_int_equal(xosera_frame_end(&s).refusal, XOSERA_DONE);
+    assert_state_equal(&s, &want);
 
-    s.host.int_mask = 0x04;
-    const xosera_line_answer l = xosera_interrupt_line(s);
+    want.host.int_mask = s.host.int_mask = INT_CTRL_VIDEO_INTR_F;
+    xosera_line_answer l = xosera_interrupt_line(&s);
     assert_int_equal(l.refusal, XOSERA_DONE);
     assert_true(l.up);
-    assert_state_equal(&l.state, &s);
-    s.host.int_mask = 0x7A;
-    assert_false(xosera_interrupt_line(s).up);
+    want.host.int_mask = s.host.int_mask = INT_CTRL_BLIT_INTR_F;
+    l = xosera_interrupt_line(&s);
+    assert_int_equal(l.refusal, XOSERA_DONE);
+    assert_false(l.up);
+    assert_state_equal(&s, &want);
 }
 
 /* The field that an XR register is stored in; NULL where none is. */
@@ -338,7 +340,7 @@ static void xr_registers_are_in_their_place(void **state)
             want.status |= INT_CTRL_VIDEO_INTR_F;
         }
         if (xaddr == XR_BLIT_WORDS) {
-            want.queued = true;
+            want.queued = 1;
         }
         expect_write(x, &s, XM_XDATA, 0xEE, &want);
 
@@ -364,7 +366,7 @@ static void the_engine_is_in_its_place(void **state)
     want = s;
     want.host.xr.wr_xaddr.word++;
     want.blit.words = 0x03EE;
-    want.engine.running = true;
+    want.engine.running = 1;
     want.engine.regs = want.blit;
     want.engine.regs.lines &= 0x7FFF;
     expect_write(x, &s, XM_XDATA, 0xEE, &want);
@@ -401,8 +403,8 @@ static void the_engine_is_in_its_place(void **state)
     assert_int_equal(xosera_step(x), 1);
     assert_state_equal(&x->state, &want);
 
-    s.queued = true;
-    want.engine.running = true;
+    s.queued = 1;
+    want.engine.running = 1;
     want.engine.regs = s.blit;
     want.engine.regs.lines &= 0x7FFF;
     x->state = s;
@@ -428,22 +430,11 @@ static void the_engine_draws_by_its_fields(void **state)
     assert_int_equal(x->vram[0x123], 0xFE11);
 }
 
-static void reset_is_as_the_header_says(void **state)
-{
-    (void)state;
-    xosera_state want;
-    memset(&want, 0, sizeof want);
-    want.host.vram.wr_mask = 15;
-    want.video.vid_right = 640;
-    const xosera_state got = xosera_reset();
-    assert_state_equal(&got, &want);
-}
-
 int layout_group(int *tests)
 {
     const struct CMUnitTest list[] = {
-        cmocka_unit_test(the_table_names_every_byte_once),
-        cmocka_unit_test(every_byte_passes_through_every_call),
+        cmocka_unit_test(the_table_names_every_word_once),
+        WITH_ADAPTER(a_refused_call_leaves_every_word),
         cmocka_unit_test(reset_is_as_the_header_says),
         WITH_ADAPTER(latches_are_in_their_place),
         WITH_ADAPTER(main_registers_are_in_their_place),

@@ -108,8 +108,8 @@ static void interleaved(int steps, int every, bool by_run)
         assert_int_equal(fixed_part(events[i], got.value), fixed_part(events[i], want.value));
     }
     (void)xosera_run(x, WORDS * LINES);
-    x->state.status &= (uint8_t)~INT_CTRL_BLIT_INTR_F;
-    whole->state.status &= (uint8_t)~INT_CTRL_BLIT_INTR_F;
+    x->state.status &= (uint16_t)~INT_CTRL_BLIT_INTR_F;
+    whole->state.status &= (uint16_t)~INT_CTRL_BLIT_INTR_F;
     assert_state_equal(&x->state, &whole->state);
     assert_memory_equal(x->vram, whole->vram, VRAM_LEN * sizeof x->vram[0]);
     assert_memory_equal(x->xr, whole->xr, XOSERA_XR_WORDS * sizeof x->xr[0]);

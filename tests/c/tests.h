@@ -25,8 +25,16 @@ int adapter_teardown(void **state);
 /* Memories full of words that are all different, or nearly so. */
 void fill(uint16_t *words, size_t n, uint16_t seed);
 
-/* Fails unless the two are equal field by field; names the field. Padding is not looked at. */
+/* Fails unless the two are equal word by word; names the word. */
 void assert_state_equal(const xosera_state *got, const xosera_state *want);
+
+/* The state after reset. */
+xosera_state reset_state(void);
+
+/* Every call that can refuse with `want`, on a copy of the state and on the adapter's memories:
+ * each answers it, with byte 0, count 0 or no, and leaves every word of all three as it was. */
+void assert_refused(const xosera *x, const xosera_state *s, size_t vram_len, size_t xr_len,
+                    uint8_t reg, xosera_refusal want);
 
 /* The ten blitter registers in one go; the last one starts or queues the blit. */
 typedef struct blit {
@@ -39,6 +47,7 @@ int table_group(int *tests);
 int rules_group(int *tests);
 int edges_group(int *tests);
 int refusals_group(int *tests);
+int ranges_group(int *tests);
 int queue_group(int *tests);
 int order_group(int *tests);
 int layout_group(int *tests);

@@ -1,0 +1,378 @@
+/* Refusal 3: each word that has a range, at its bounds and beyond. A state is 75 words that
+ * anything may have filled, so no word out of range may be misread, by any call. */
+#include "tests.h"
+
+/* The least and the most that a word may hold, the rest of the state being as it is. */
+typedef struct range {
+    const char *name;
+    size_t at;
+    uint16_t least, most;
+} range;
+
+/* clang-format off */
+#define RANGE(path, least, most) {#path, offsetof(xosera_state, path), least, most}
+
+/* In every state. */
+static const range bytes_and_masks[] = {
+    RANGE(host.latch[0], 0, 255),  RANGE(host.latch[1], 0, 255),  RANGE(host.latch[2], 0, 255),
+    RANGE(host.latch[3], 0, 255),  RANGE(host.latch[4], 0, 255),  RANGE(host.latch[5], 0, 255),
+    RANGE(host.latch[6], 0, 255),  RANGE(host.latch[7], 0, 255),  RANGE(host.latch[8], 0, 255),
+    RANGE(host.latch[9], 0, 255),  RANGE(host.latch[10], 0, 255), RANGE(host.latch[11], 0, 255),
+    RANGE(host.latch[12], 0, 255), RANGE(host.latch[13], 0, 255), RANGE(host.latch[14], 0, 255),
+    RANGE(host.latch[15], 0, 255), RANGE(host.timer.saved, 0, 255),
+    RANGE(host.vram.wr_mask, 0, 15), RANGE(host.int_mask, 0, 127), RANGE(status, 0, 127),
+};
+
+/* On an idle engine with the countdown stopped. */
+static const range while_idle[] = {
+    RANGE(host.timer.countdown, 0, 0), RANGE(host.timer.interval, 0, 0), RANGE(queued, 0, 0),
+    RANGE(engine.running, 0, 1), /* a blit of one word may begin here */
+    RANGE(engine.line, 0, 0),       RANGE(engine.word, 0, 0),       RANGE(engine.kept, 0, 0),
+    RANGE(engine.regs.ctrl, 0, 0),  RANGE(engine.regs.andc, 0, 0),  RANGE(engine.regs.xor_, 0, 0),
+    RANGE(engine.regs.mod_s, 0, 0), RANGE(engine.regs.src_s, 0, 0), RANGE(engine.regs.mod_d, 0, 0),
+    RANGE(engine.regs.dst_d, 0, 0), RANGE(engine.regs.shift, 0, 0), RANGE(engine.regs.lines, 0, 0),
+    RANGE(engine.regs.words, 0, 0),
+};
+
+/* In mid-line, as set up by in_mid_line. */
+static const range while_running[] = {
+    RANGE(host.timer.countdown, 1, 300), RANGE(host.timer.interval, 300, 65535),
+    RANGE(queued, 0, 1),                 RANGE(engine.running, 1, 1),
+    RANGE(engine.line, 0, 20),           RANGE(engine.word, 1, 40), /* 0 with a word kept is wrong */
+    RANGE(engine.kept, 0, 65535),        RANGE(engine.regs.lines, 10, 32767),
+    RANGE(engine.regs.words, 30, 65535),
+};
+
+/* At the last line's first word, as set up by at_first_word. */
+static const range at_line_start[] = {
+    RANGE(host.timer.countdown, 1, 300), RANGE(host.timer.interval, 300, 65535),
+    RANGE(queued, 0, 1),                 RANGE(engine.running, 1, 1),
+    RANGE(engine.line, 0, 20),           RANGE(engine.word, 0, 40),
+    RANGE(engine.kept, 0, 0),            RANGE(engine.regs.lines, 20, 32767),
+    RANGE(engine.regs.words, 0, 65535),
+};
+/* clang-format on */
+
+/* Words `from` to `to` of the state, all different. */
+static void fill_words(xosera_state *s, int from, int to)
+{
+    uint16_t words[XOSERA_STATE_WORDS];
+    memcpy(words, s, sizeof words);
+    fill(words + from, (size_t)(to - from + 1), (uint16_t)(from + 1));
+    memcpy(s, words, sizeof words);
+}
+
+/* Idle, and no free word 0. */
+static xosera_state idle(void)
+{
+    xosera_state s = reset_state();
+    for (int reg = 0; reg < XOSERA_MAIN_REGS; reg++) {
+        s.host.latch[reg] = (uint16_t)(0x71 + reg);
+    }
+    fill_words(&s, 16, 23); /* both ports */
+    s.host.timer.count = 0x1234;
+    s.host.timer.saved = 0x56;
+    s.host.int_mask = 0x7F;
+    s.status = 0x7F;
+    fill_words(&s, 46, 74); /* video and blit */
+    return s;
+}
+
+static xosera_state in_mid_line(void)
+{
+    xosera_state s = idle();
+    s.host.timer.countdown = s.host.timer.interval = 300;
+    s.queued = 1;
+    s.engine.running = 1;
+    fill_words(&s, 36, 45); /* the engine's copies */
+    s.engine.line = 10;
+    s.engine.word = 30;
+    s.engine.kept = 0xBEEF;
+    s.engine.regs.lines = 20;
+    s.engine.regs.words = 40;
+    return s;
+}
+
+static xosera_state at_first_word(void)
+{
+    xosera_state s = in_mid_line();
+    s.engine.line = 20;
+    s.engine.word = 0;
+    s.engine.kept = 0;
+    return s;
+}
+
+/* All seven calls do their work, each on a copy of the state. */
+static void assert_accepted(const xosera *x, const xosera_state *s)
+{
+    xosera_state t = *s;
+    assert_int_equal(xosera_interrupt_line(&t).refusal, XOSERA_DONE);
+    assert_state_equal(&t, s);
+    assert_int_equal(xosera_read_byte(&t, x->vram, x->vram_len, x->xr, x->xr_len, 12, true).refusal,
+                     XOSERA_DONE);
+    assert_state_equal(&t, s);
+    assert_int_equal(
+        xosera_write_byte(&t, x->vram, x->vram_len, x->xr, x->xr_len, 12, true, 0xA5).refusal,
+        XOSERA_DONE);
+    assert_state_equal(&t, s);
+    assert_int_equal(xosera_timer_tick(&t).refusal, XOSERA_DONE);
+    t = *s;
+    assert_int_equal(xosera_frame_end(&t).refusal, XOSERA_DONE);
+    t = *s;
+    const xosera_blit_answer step = xosera_blit_step(&t, x->vram, x->vram_len, x->xr, x->xr_len);
+    assert_int_equal(step.refusal, XOSERA_DONE);
+    assert_int_equal(step.count, s->engine.running);
+    t = *s;
+    const xosera_blit_answer run = xosera_blit_run(&t, x->vram, x->vram_len, x->xr, x->xr_len, 1);
+    assert_int_equal(run.refusal, XOSERA_DONE);
+    assert_int_equal(run.count, s->engine.running);
+}
+
+static void assert_out_of_range(const xosera *x, const xosera_state *s)
+{
+    assert_refused(x, s, x->vram_len, x->xr_len, XM_XDATA, XOSERA_STATE_RANGE);
+    assert_refused(x, s, x->vram_len, x->xr_len, 16, XOSERA_STATE_RANGE); /* 3 comes before 4 */
+}
+
+static void set_word(xosera_state *s, size_t at, uint16_t value)
+{
+    memcpy((char *)s + at, &value, sizeof value);
+}
+
+/* Values at which some width or sign could be mistaken, tried beside the bounds. */
+static const uint16_t telling[] = {0,   1,      2,      15,     16,     127,    128,    254,   255,
+                                   256, 0x0101, 0x7FFF, 0x8000, 0xFF00, 0xFF01, 0xFFFE, 0xFFFF};
+enum { TELLING = sizeof telling / sizeof telling[0] };
+
+static void one_value(const xosera *x, xosera_state s, const range *r, uint16_t value)
+{
+    set_word(&s, r->at, value);
+    const bool right = r->least <= value && value <= r->most;
+    const int refusal = xosera_interrupt_line(&s).refusal;
+    if (refusal != (right ? XOSERA_DONE : XOSERA_STATE_RANGE)) {
+        fail_msg("%s = %u: refusal %d", r->name, (unsigned)value, refusal);
+    }
+    if (right) {
+        assert_accepted(x, &s);
+    } else {
+        assert_out_of_range(x, &s);
+    }
+}
+
+static void every_bound(xosera_state s, const range *ranges, size_t n)
+{
+    xosera *x = adapter_new(256);
+    assert_accepted(x, &s);
+    for (const range *r = ranges; r < ranges + n; r++) {
+        one_value(x, s, r, r->least);
+        one_value(x, s, r, r->most);
+        one_value(x, s, r, (uint16_t)(r->least - 1));
+        one_value(x, s, r, (uint16_t)(r->most + 1));
+        for (size_t i = 0; i < TELLING; i++) {
+            one_value(x, s, r, telling[i]);
+        }
+    }
+    adapter_free(x);
+}
+#define EVERY_BOUND(s, ranges) every_bound(s, ranges, sizeof(ranges) / sizeof(ranges)[0])
+
+static void bytes_and_masks_have_their_bounds(void **state)
+{
+    (void)state;
+    EVERY_BOUND(idle(), bytes_and_masks);
+    EVERY_BOUND(in_mid_line(), bytes_and_masks);
+}
+
+static void an_idle_engine_is_all_0(void **state)
+{
+    (void)state;
+    EVERY_BOUND(idle(), while_idle);
+}
+
+static void a_running_engine_has_its_bounds(void **state)
+{
+    (void)state;
+    EVERY_BOUND(in_mid_line(), while_running);
+    EVERY_BOUND(at_first_word(), at_line_start);
+}
+
+/* Every other word may hold anything. */
+static bool has_range(size_t at)
+{
+    const range *const lists[] = {bytes_and_masks, while_running};
+    const size_t lengths[] = {sizeof bytes_and_masks / sizeof(range),
+                              sizeof while_running / sizeof(range)};
+    for (size_t i = 0; i < 2; i++) {
+        for (size_t n = 0; n < lengths[i]; n++) {
+            if (lists[i][n].at == at) {
+                return true;
+            }
+        }
+    }
+    return false;
+}
+
+static void all_other_words_are_free(void **state)
+{
+    xosera *x = (xosera *)*state;
+    const xosera_state s = in_mid_line();
+    int free_words = 0;
+    for (size_t at = 0; at < sizeof s; at += 2) {
+        if (!has_range(at)) {
+            const range any = {"", at, 0, 65535};
+            for (size_t i = 0; i < TELLING; i++) {
+                one_value(x, s, &any, telling[i]);
+            }
+            free_words++;
+        }
+    }
+    assert_int_equal(free_words, XOSERA_STATE_WORDS - 16 - 4 - 9);
+}
+
+/* A handle that nobody attached, or a state from a file gone bad. */
+static void a_handle_full_of_anything_is_refused(void **state)
+{
+    xosera *x = (xosera *)*state;
+    const int bytes[] = {0xFF, 0xA5, 0x55, 0x80, 0x01};
+    x->on_refusal = NULL;
+    for (size_t i = 0; i < sizeof bytes / sizeof bytes[0]; i++) {
+        memset(&x->state, bytes[i], sizeof x->state);
+        const xosera_state before = x->state;
+        xosera_clear_refusals(x);
+        xosera_setw(x, XM_WR_ADDR, 0x1234);
+        assert_int_equal(xosera_getw(x, XM_WR_ADDR), 0);
+        assert_int_equal(xosera_step(x), 0);
+        assert_int_equal(xosera_run(x, 100), 0);
+        xosera_tick(x);
+        xosera_frame(x);
+        assert_false(xosera_line_up(x));
+        assert_int_equal(x->refusals, 9);
+        assert_int_equal(x->first_refused.why, XOSERA_STATE_RANGE);
+        assert_int_equal(x->last_refused.why, XOSERA_STATE_RANGE);
+        assert_state_equal(&x->state, &before);
+        assert_out_of_range(x, &before);
+    }
+    xosera_reset(&x->state);
+    xosera_clear_refusals(x);
+    xosera_setw(x, XM_WR_ADDR, 0x1234);
+    assert_int_equal(x->refusals, 0);
+}
+
+/* Equal states are equal memory, whatever came before. */
+static void equal_states_are_equal_memory(void **state)
+{
+    (void)state;
+    xosera *x = adapter_new(256), *y = adapter_new(256);
+    memset(&y->state, 0xFF, sizeof y->state);
+    xosera_reset(&y->state);
+    assert_memory_equal(&x->state, &y->state, sizeof x->state);
+
+    const blit constant = {
+        .ctrl = 1, .src_s = 0x1111, .shift = 0xFF00, .lines = 0x8001, .words = 3};
+    xosera_setw(x, XM_WR_ADDR, 0x0040);
+    start_blit(x, &constant);
+    assert_int_equal(xosera_run(x, 5), 5);
+    xosera_setw(x, XM_TIMER, 2);
+    xosera_tick(x);
+
+    /* By other calls in another order: a blit before it, and once round the timer. */
+    start_blit(y, &(blit){.src_s = 0x0050, .shift = 0xFF01, .words = 7});
+    start_blit(y, &constant);
+    xosera_setw(y, XM_TIMER, 3);
+    for (int i = 0; i < 0x10000; i++) {
+        xosera_tick(y);
+    }
+    for (int i = 0; i < 8 + 5; i++) {
+        assert_int_equal(xosera_step(y), 1);
+    }
+    xosera_setw(y, XM_TIMER, 2);
+    xosera_tick(y);
+    xosera_set_byte(y, XM_WR_ADDR, true, 0x40);
+    xosera_setw(y, XM_INT_CTRL, INT_CTRL_CLEAR_ALL_F);
+    assert_int_equal(x->refusals + y->refusals, 0);
+    assert_int_equal(memcmp(&x->state, &y->state, sizeof x->state), 0);
+
+    /* And to a file and back. */
+    FILE *const file = tmpfile();
+    xosera_state back;
+    assert_non_null(file);
+    assert_int_equal(fwrite(&x->state, sizeof x->state, 1, file), 1);
+    rewind(file);
+    assert_int_equal(fread(&back, sizeof back, 1, file), 1);
+    fclose(file);
+    assert_int_equal(memcmp(&back, &y->state, sizeof back), 0);
+    assert_accepted(x, &back);
+    adapter_free(x);
+    adapter_free(y);
+}
+
+/* The ranges once more, by the numbers of the words alone. */
+static bool words_in_range(const uint16_t *w)
+{
+    bool bytes = w[28] <= 255, idle_engine = true;
+    for (int i = 0; i < 16; i++) {
+        bytes = bytes && w[i] <= 255;
+    }
+    for (int i = 33; i < 46; i++) {
+        idle_engine = idle_engine && w[i] == 0;
+    }
+    const bool masks = w[24] <= 15 && w[29] <= 127 && w[31] <= 127;
+    const bool countdown = (1 <= w[26] && w[26] <= w[27]) || (w[26] == 0 && w[27] == 0);
+    const bool flags = w[30] <= 1 && w[32] <= 1 && w[30] <= w[32];
+    const bool engine = w[32] == 0 ? idle_engine
+                                   : w[33] <= w[44] && w[34] <= w[45] && w[44] <= 32767 &&
+                                         (w[34] != 0 || w[35] == 0);
+    return bytes && masks && countdown && flags && engine;
+}
+
+static uint32_t random_seed = 1;
+static uint16_t random_word(void)
+{
+    random_seed = random_seed * 1664525u + 1013904223u;
+    return (uint16_t)(random_seed >> 16);
+}
+
+/* Any words are in range, and served, or refused with 3. */
+static void words_are_served_or_refused(const xosera *x, const uint16_t *words, int *served)
+{
+    xosera_state s;
+    memcpy(&s, words, sizeof s);
+    if (words_in_range(words)) {
+        assert_accepted(x, &s);
+        (*served)++;
+    } else {
+        assert_out_of_range(x, &s);
+    }
+}
+
+static void random_words_are_served_or_refused(void **state)
+{
+    xosera *x = (xosera *)*state;
+    const xosera_state starts[] = {idle(), in_mid_line(), at_first_word()};
+    uint16_t words[XOSERA_STATE_WORDS];
+    int served = 0;
+    for (int round = 0; round < 3000; round++) {
+        const int damaged = round % 4; /* 0: all of them */
+        memcpy(words, &starts[round % 3], sizeof words);
+        for (int i = 0; i < (damaged == 0 ? XOSERA_STATE_WORDS : damaged); i++) {
+            const int which = damaged == 0 ? i : random_word() % XOSERA_STATE_WORDS;
+            words[which] = round % 8 < 4 ? random_word() : telling[random_word() % TELLING];
+        }
+        words_are_served_or_refused(x, words, &served);
+    }
+    assert_in_range(served, 500, 2500);
+}
+
+int ranges_group(int *tests)
+{
+    const struct CMUnitTest list[] = {
+        cmocka_unit_test(bytes_and_masks_have_their_bounds),
+        cmocka_unit_test(an_idle_engine_is_all_0),
+        cmocka_unit_test(a_running_engine_has_its_bounds),
+        WITH_ADAPTER(all_other_words_are_free),
+        WITH_ADAPTER(a_handle_full_of_anything_is_refused),
+        cmocka_unit_test(equal_states_are_equal_memory),
+        WITH_ADAPTER(random_words_are_served_or_refused),
+    };
+    return RUN_GROUP("ranges", list, tests);
+}
