@@ -1,14 +1,15 @@
 //! How fast the library is, beside the plain Rust model in the same process.
 //!
-//! Three columns of figures, in millions a second: the library; the plain model called as the library
-//! is, with the state going in and coming back by value; and the plain model changing its state in
-//! place. The ratio is that of the first two. All do the same work on memories of their own, and what
-//! they leave is compared, so none can leave any out. Each figure is the best of many rounds, the sides
-//! taking turns.
+//! Millions a second, of the library and of the plain model, and the ratio of the two. Both are called
+//! through a pointer to a C function, with the state and the memories lent and changed in place, by
+//! loops that are written once. Both do the same work on memories of their own; answers, states and
+//! memories are compared after every round, so neither can leave any out. Each figure is the best of
+//! many rounds, the sides taking turns.
 
 use std::time::Instant;
 
-use compare::convert::to_model;
+use compare::convert::{typed, words};
+use xosera::{BlitAnswer, LineAnswer, ReadAnswer, StateAnswer, WriteAnswer};
 
 const VRAM_WORDS: usize = 65536;
 
@@ -21,107 +22,304 @@ const WORDS: u64 = 65536;
 /// Single calls in a round.
 const CALLS: u64 = 4096;
 
-/// The plain model called as the library is, by C's convention: the state is copied to the stack on the
-/// way in and to the caller's room on the way out.
-#[allow(improper_ctypes_definitions)]
-mod by_value {
-    use model::State;
+/// A side's seven calls, on a state of type `S`.
+#[derive(Clone, Copy)]
+struct Calls<S> {
+    write_byte:
+        unsafe extern "C" fn(*mut S, *mut u16, usize, *mut u16, usize, u8, bool, u8) -> WriteAnswer,
+    read_byte:
+        unsafe extern "C" fn(*mut S, *const u16, usize, *const u16, usize, u8, bool) -> ReadAnswer,
+    blit_step: unsafe extern "C" fn(*mut S, *mut u16, usize, *const u16, usize) -> BlitAnswer,
+    blit_run: unsafe extern "C" fn(*mut S, *mut u16, usize, *const u16, usize, u64) -> BlitAnswer,
+    timer_tick: unsafe extern "C" fn(*mut S) -> StateAnswer,
+    frame_end: unsafe extern "C" fn(*mut S) -> StateAnswer,
+    interrupt_line: unsafe extern "C" fn(*const S) -> LineAnswer,
+}
+
+const LIBRARY: Calls<xosera::State> = Calls {
+    write_byte: xosera::ffi::xosera_write_byte,
+    read_byte: xosera::ffi::xosera_read_byte,
+    blit_step: xosera::ffi::xosera_blit_step,
+    blit_run: xosera::ffi::xosera_blit_run,
+    timer_tick: xosera::ffi::xosera_timer_tick,
+    frame_end: xosera::ffi::xosera_frame_end,
+    interrupt_line: xosera::ffi::xosera_interrupt_line,
+};
+
+const PLAIN: Calls<model::State> = Calls {
+    write_byte: plain::write_byte,
+    read_byte: plain::read_byte,
+    blit_step: plain::blit_step,
+    blit_run: plain::blit_run,
+    timer_tick: plain::timer_tick,
+    frame_end: plain::frame_end,
+    interrupt_line: plain::interrupt_line,
+};
+
+/// The plain model's calls as C functions. Pointers and lengths are those of live memory, as for the
+/// library's.
+mod plain {
+    use std::slice::{from_raw_parts, from_raw_parts_mut};
+
+    use model::{Refusal, State};
+    use xosera::{BlitAnswer, LineAnswer, ReadAnswer, StateAnswer, WriteAnswer};
+
+    /// The refusal's number and the answer, 0 if refused.
+    fn said<T: Default>(answer: Result<T, Refusal>) -> (u8, T) {
+        match answer {
+            Ok(value) => (0, value),
+            Err(refusal) => (refusal as u8, T::default()),
+        }
+    }
 
     #[inline(never)]
-    pub extern "C" fn write_byte(
-        mut s: State,
-        vram: &mut [u16],
-        xr: &mut [u16],
+    #[allow(clippy::too_many_arguments)]
+    pub unsafe extern "C" fn write_byte(
+        s: *mut State,
+        vram: *mut u16,
+        vram_len: usize,
+        xr: *mut u16,
+        xr_len: usize,
         reg: u8,
         odd: bool,
         byte: u8,
-    ) -> (State, u8) {
-        let answer = s.write_byte(vram, xr, reg, odd, byte);
-        (s, answer.map_or_else(|refusal| refusal as u8, |()| 0))
+    ) -> WriteAnswer {
+        let vram = from_raw_parts_mut(vram, vram_len);
+        let xr = from_raw_parts_mut(xr, xr_len);
+        let (refusal, ()) = said((*s).write_byte(vram, xr, reg, odd, byte));
+        WriteAnswer { refusal }
     }
 
     #[inline(never)]
-    pub extern "C" fn read_byte(
-        mut s: State,
-        vram: &[u16],
-        xr: &[u16],
+    pub unsafe extern "C" fn read_byte(
+        s: *mut State,
+        vram: *const u16,
+        vram_len: usize,
+        xr: *const u16,
+        xr_len: usize,
         reg: u8,
         odd: bool,
-    ) -> (State, u8) {
-        let answer = s.read_byte(vram, xr, reg, odd);
-        (s, answer.unwrap_or(0))
+    ) -> ReadAnswer {
+        let vram = from_raw_parts(vram, vram_len);
+        let xr = from_raw_parts(xr, xr_len);
+        let (refusal, byte) = said((*s).read_byte(vram, xr, reg, odd));
+        ReadAnswer { refusal, byte }
     }
 
     #[inline(never)]
-    pub extern "C" fn blit_step(mut s: State, vram: &mut [u16], xr: &[u16]) -> (State, u64) {
-        let answer = s.blit_step(vram, xr);
-        (s, answer.unwrap_or(0))
+    pub unsafe extern "C" fn blit_step(
+        s: *mut State,
+        vram: *mut u16,
+        vram_len: usize,
+        xr: *const u16,
+        xr_len: usize,
+    ) -> BlitAnswer {
+        let vram = from_raw_parts_mut(vram, vram_len);
+        let xr = from_raw_parts(xr, xr_len);
+        let (refusal, count) = said((*s).blit_step(vram, xr));
+        BlitAnswer { refusal, count }
     }
 
     #[inline(never)]
-    pub extern "C" fn blit_run(mut s: State, vram: &mut [u16], xr: &[u16], n: u64) -> (State, u64) {
-        let answer = s.blit_run(vram, xr, n);
-        (s, answer.unwrap_or(0))
+    pub unsafe extern "C" fn blit_run(
+        s: *mut State,
+        vram: *mut u16,
+        vram_len: usize,
+        xr: *const u16,
+        xr_len: usize,
+        n: u64,
+    ) -> BlitAnswer {
+        let vram = from_raw_parts_mut(vram, vram_len);
+        let xr = from_raw_parts(xr, xr_len);
+        let (refusal, count) = said((*s).blit_run(vram, xr, n));
+        BlitAnswer { refusal, count }
+    }
+
+    #[inline(never)]
+    pub unsafe extern "C" fn timer_tick(s: *mut State) -> StateAnswer {
+        let (refusal, ()) = said((*s).timer_tick());
+        StateAnswer { refusal }
+    }
+
+    #[inline(never)]
+    pub unsafe extern "C" fn frame_end(s: *mut State) -> StateAnswer {
+        let (refusal, ()) = said((*s).frame_end());
+        StateAnswer { refusal }
+    }
+
+    #[inline(never)]
+    pub unsafe extern "C" fn interrupt_line(s: *const State) -> LineAnswer {
+        let (refusal, up) = said((*s).interrupt_line());
+        LineAnswer { refusal, up }
     }
 }
 
-/// The memories and the two states that a side starts from.
-#[derive(Clone)]
-struct Side {
+/// A side: its calls, the state that every round starts from, and its memories.
+struct Side<S> {
+    calls: Calls<S>,
+    start: S,
+    state: S,
     vram: Vec<u16>,
     xr: Vec<u16>,
-    start: xosera::State,
-    plain_start: model::State,
 }
 
-impl Side {
-    fn of(x: &xosera::Adapter) -> Side {
+impl<S: Copy> Side<S> {
+    fn new(calls: Calls<S>, start: S, x: &xosera::Adapter) -> Side<S> {
         Side {
+            // Read as the loops will see it: which functions they call is not known there.
+            calls: unsafe { std::ptr::read_volatile(&calls) },
+            start,
+            state: start,
             vram: x.vram.clone(),
             xr: x.xr.clone(),
-            start: x.state,
-            plain_start: to_model(&x.state),
         }
     }
 
-    /// A number that depends on every word.
-    fn digest(&self) -> u64 {
-        let words = self.vram.iter().chain(&self.xr);
-        words.fold(0, |sum: u64, &w| {
-            sum.rotate_left(5).wrapping_mul(31) ^ u64::from(w)
-        })
+    /// One round from the start: seconds, and a number that depends on every answer.
+    fn round<W: Work>(&mut self, work: &W) -> (f64, u64) {
+        let start = Instant::now();
+        self.state = self.start;
+        let answers = work.done_by(self);
+        (start.elapsed().as_secs_f64(), answers)
+    }
+
+    fn memories_equal<T>(&self, other: &Side<T>) -> bool {
+        self.vram == other.vram && self.xr == other.xr
     }
 }
 
-/// One side's work, from its start; a number that depends on its answers.
-type Work = fn(&mut Side) -> u64;
+/// One round's work, the same for every side; the answers in one number.
+trait Work {
+    fn done_by<S>(&self, m: &mut Side<S>) -> u64;
+}
 
-/// Print the rates of the library, the plain model by value and the plain model in place.
-fn compare(name: &str, unit: &str, units: u64, x: &xosera::Adapter, work: [Work; 3]) {
-    let mut sides = [Side::of(x), Side::of(x), Side::of(x)];
-    let mut best = [f64::MAX; 3];
-    for _ in 0..ROUNDS {
-        let mut left = [0; 3];
-        for i in 0..3 {
-            let start = Instant::now();
-            let answers = work[i](&mut sides[i]);
-            best[i] = best[i].min(start.elapsed().as_secs_f64());
-            left[i] = answers ^ sides[i].digest();
+/// One run to the blit's end.
+struct Run;
+
+impl Work for Run {
+    fn done_by<S>(&self, m: &mut Side<S>) -> u64 {
+        let (v, vn, x, xn) = (m.vram.as_mut_ptr(), m.vram.len(), m.xr.as_ptr(), m.xr.len());
+        unsafe { (m.calls.blit_run)(&mut m.state, v, vn, x, xn, u64::MAX).count }
+    }
+}
+
+/// Single steps.
+struct Steps;
+
+impl Work for Steps {
+    fn done_by<S>(&self, m: &mut Side<S>) -> u64 {
+        let (v, vn, x, xn) = (m.vram.as_mut_ptr(), m.vram.len(), m.xr.as_ptr(), m.xr.len());
+        let mut count = 0;
+        for _ in 0..CALLS {
+            count += unsafe { (m.calls.blit_step)(&mut m.state, v, vn, x, xn).count };
         }
+        count
+    }
+}
+
+/// Even and odd bytes in turn, written to one register.
+struct Writes(u8);
+
+impl Work for Writes {
+    fn done_by<S>(&self, m: &mut Side<S>) -> u64 {
+        let (v, vn, x, xn) = (
+            m.vram.as_mut_ptr(),
+            m.vram.len(),
+            m.xr.as_mut_ptr(),
+            m.xr.len(),
+        );
+        let mut refused = 0;
+        for i in 0..CALLS {
+            let (odd, byte) = (i % 2 == 1, i as u8);
+            let a = unsafe { (m.calls.write_byte)(&mut m.state, v, vn, x, xn, self.0, odd, byte) };
+            refused += u64::from(a.refusal);
+        }
+        refused
+    }
+}
+
+/// Even and odd bytes in turn, read from one register.
+struct Reads(u8);
+
+impl Work for Reads {
+    fn done_by<S>(&self, m: &mut Side<S>) -> u64 {
+        let (v, vn, x, xn) = (m.vram.as_ptr(), m.vram.len(), m.xr.as_ptr(), m.xr.len());
+        let mut sum = 0;
+        for i in 0..CALLS {
+            let odd = i % 2 == 1;
+            let a = unsafe { (m.calls.read_byte)(&mut m.state, v, vn, x, xn, self.0, odd) };
+            sum = mixed(sum, a.refusal, a.byte);
+        }
+        sum
+    }
+}
+
+struct Ticks;
+
+impl Work for Ticks {
+    fn done_by<S>(&self, m: &mut Side<S>) -> u64 {
+        let mut refused = 0;
+        for _ in 0..CALLS {
+            refused += u64::from(unsafe { (m.calls.timer_tick)(&mut m.state).refusal });
+        }
+        refused
+    }
+}
+
+struct FrameEnds;
+
+impl Work for FrameEnds {
+    fn done_by<S>(&self, m: &mut Side<S>) -> u64 {
+        let mut refused = 0;
+        for _ in 0..CALLS {
+            refused += u64::from(unsafe { (m.calls.frame_end)(&mut m.state).refusal });
+        }
+        refused
+    }
+}
+
+struct Lines;
+
+impl Work for Lines {
+    fn done_by<S>(&self, m: &mut Side<S>) -> u64 {
+        let mut sum = 0;
+        for _ in 0..CALLS {
+            let a = unsafe { (m.calls.interrupt_line)(&m.state) };
+            sum = mixed(sum, a.refusal, u8::from(a.up));
+        }
+        sum
+    }
+}
+
+fn mixed(sum: u64, refusal: u8, value: u8) -> u64 {
+    sum.rotate_left(1) ^ u64::from(refusal) << 8 ^ u64::from(value)
+}
+
+/// Print the rates of the library and of the plain model, and their ratio.
+fn compare<W: Work>(name: &str, unit: &str, units: u64, x: &xosera::Adapter, work: W) {
+    let plain_start = typed(x.state.words()).expect("a state that a call left");
+    let mut library = Side::new(LIBRARY, x.state, x);
+    let mut plain = Side::new(PLAIN, plain_start, x);
+    let mut best = [f64::MAX; 2];
+    for _ in 0..ROUNDS {
+        let (library_time, library_answers) = library.round(&work);
+        let (plain_time, plain_answers) = plain.round(&work);
+        best = [best[0].min(library_time), best[1].min(plain_time)];
         assert!(
-            left[0] == left[1] && left[1] == left[2],
+            library_answers == plain_answers
+                && *library.state.words() == words(&plain.state)
+                && library.memories_equal(&plain),
             "{}: the sides differ",
             name
         );
     }
     let rate = best.map(|seconds| units as f64 / seconds / 1e6);
     println!(
-        "{:<36} {:>8.1} {:>8.1} {:>7.2} {:>9.1}  {}",
+        "{:<36} {:>8.1} {:>8.1} {:>7.2}  {}",
         name,
         rate[0],
         rate[1],
         rate[0] / rate[1],
-        rate[2],
         unit
     );
 }
@@ -140,142 +338,30 @@ fn started(ctrl: u16, source: u16, shift: u16) -> xosera::Adapter {
     x
 }
 
-fn run(name: &str, x: &xosera::Adapter) {
-    let work: [Work; 3] = [
-        |m| xosera::blit_run(m.start, &mut m.vram, &m.xr, u64::MAX).count,
-        |m| by_value::blit_run(m.plain_start, &mut m.vram, &m.xr, u64::MAX).1,
-        |m| {
-            let mut s = m.plain_start;
-            s.blit_run(&mut m.vram, &m.xr, u64::MAX).unwrap_or(0)
-        },
-    ];
-    compare(&format!("one run, {}", name), "Mwords/s", WORDS, x, work);
-}
-
-fn steps(name: &str, x: &xosera::Adapter) {
-    let work: [Work; 3] = [
-        |m| {
-            let (mut s, mut count) = (m.start, 0);
-            for _ in 0..CALLS {
-                let a = xosera::blit_step(s, &mut m.vram, &m.xr);
-                s = a.state;
-                count += a.count;
-            }
-            count
-        },
-        |m| {
-            let (mut s, mut count) = (m.plain_start, 0);
-            for _ in 0..CALLS {
-                let (after, done) = by_value::blit_step(s, &mut m.vram, &m.xr);
-                s = after;
-                count += done;
-            }
-            count
-        },
-        |m| {
-            let (mut s, mut count) = (m.plain_start, 0);
-            for _ in 0..CALLS {
-                count += s.blit_step(&mut m.vram, &m.xr).unwrap_or(0);
-            }
-            count
-        },
-    ];
-    compare(
-        &format!("single steps, {}", name),
-        "Mwords/s",
-        CALLS,
-        x,
-        work,
-    );
-}
-
-/// Even and odd bytes in turn at one register.
-fn writes<const REG: u8>(name: &str, x: &xosera::Adapter) {
-    let work: [Work; 3] = [
-        |m| {
-            let (mut s, mut refused) = (m.start, 0);
-            for i in 0..CALLS {
-                let (odd, byte) = (i % 2 == 1, i as u8);
-                let a = xosera::write_byte(s, &mut m.vram, &mut m.xr, REG, odd, byte);
-                s = a.state;
-                refused += u64::from(a.refusal);
-            }
-            refused
-        },
-        |m| {
-            let (mut s, mut refused) = (m.plain_start, 0);
-            for i in 0..CALLS {
-                let (odd, byte) = (i % 2 == 1, i as u8);
-                let a = by_value::write_byte(s, &mut m.vram, &mut m.xr, REG, odd, byte);
-                s = a.0;
-                refused += u64::from(a.1);
-            }
-            refused
-        },
-        |m| {
-            let (mut s, mut refused) = (m.plain_start, 0);
-            for i in 0..CALLS {
-                let (odd, byte) = (i % 2 == 1, i as u8);
-                let a = s.write_byte(&mut m.vram, &mut m.xr, REG, odd, byte);
-                refused += u64::from(a.is_err());
-            }
-            refused
-        },
-    ];
-    compare(
-        &format!("byte writes to {}", name),
-        "Mcalls/s",
-        CALLS,
-        x,
-        work,
-    );
-}
-
-fn reads<const REG: u8>(name: &str, x: &xosera::Adapter) {
-    let work: [Work; 3] = [
-        |m| {
-            let (mut s, mut sum) = (m.start, 0u64);
-            for i in 0..CALLS {
-                let a = xosera::read_byte(s, &m.vram, &m.xr, REG, i % 2 == 1);
-                s = a.state;
-                sum = sum.rotate_left(1) ^ u64::from(a.byte);
-            }
-            sum
-        },
-        |m| {
-            let (mut s, mut sum) = (m.plain_start, 0u64);
-            for i in 0..CALLS {
-                let (after, byte) = by_value::read_byte(s, &m.vram, &m.xr, REG, i % 2 == 1);
-                s = after;
-                sum = sum.rotate_left(1) ^ u64::from(byte);
-            }
-            sum
-        },
-        |m| {
-            let (mut s, mut sum) = (m.plain_start, 0u64);
-            for i in 0..CALLS {
-                let byte = s.read_byte(&m.vram, &m.xr, REG, i % 2 == 1).unwrap_or(0);
-                sum = sum.rotate_left(1) ^ u64::from(byte);
-            }
-            sum
-        },
-    ];
-    compare(
-        &format!("byte reads of {}", name),
-        "Mcalls/s",
-        CALLS,
-        x,
-        work,
-    );
+/// A reset adapter that counts up at both data ports and down from 3 at every tick, with the video
+/// interrupt enabled.
+fn prepared() -> xosera::Adapter {
+    let mut x = xosera::Adapter::new(VRAM_WORDS);
+    for (reg, word) in [
+        (xosera::XM_WR_INCR, 1),
+        (xosera::XM_RD_INCR, 1),
+        (xosera::XM_WR_XADDR, 0x4000),
+        (xosera::XM_TIMER, 3),
+        (xosera::XM_INT_CTRL, 0x1000),
+    ] {
+        x.write_word(reg, word)
+            .expect("a reset adapter takes a word");
+    }
+    x
 }
 
 fn main() {
     if cfg!(debug_assertions) {
-        eprintln!("built without --release: the figures mean nothing");
+        eprintln!("built without --profile bench: the figures mean nothing");
     }
     println!(
-        "{:<36} {:>8} {:>8} {:>7} {:>9}",
-        "millions a second", "library", "plain", "ratio", "in place"
+        "{:<36} {:>8} {:>8} {:>7}",
+        "millions a second", "library", "plain", "ratio"
     );
     let blits = [
         ("plain copy", started(0x0000, 0x0000, 0xFF00)),
@@ -283,25 +369,29 @@ fn main() {
         ("constant fill", started(0x0001, 0x1234, 0xFF00)),
     ];
     for (name, x) in &blits {
-        run(name, x);
+        compare(&format!("one run, {}", name), "Mwords/s", WORDS, x, Run);
     }
     for (name, x) in &blits {
-        steps(name, x);
+        let name = format!("single steps, {}", name);
+        compare(&name, "Mwords/s", CALLS, x, Steps);
     }
 
-    let mut x = xosera::Adapter::new(VRAM_WORDS);
-    for (reg, word) in [
-        (xosera::XM_WR_INCR, 1),
-        (xosera::XM_RD_INCR, 1),
-        (xosera::XM_WR_XADDR, 0x4000),
+    let x = prepared();
+    for (name, reg) in [
+        ("XM_DATA", xosera::XM_DATA),
+        ("XM_XDATA", xosera::XM_XDATA),
+        ("XM_TIMER", xosera::XM_TIMER),
     ] {
-        x.write_word(reg, word)
-            .expect("a reset adapter takes a word");
+        let (writes, reads) = (
+            format!("byte writes to {}", name),
+            format!("byte reads of {}", name),
+        );
+        compare(&writes, "Mcalls/s", CALLS, &x, Writes(reg));
+        compare(&reads, "Mcalls/s", CALLS, &x, Reads(reg));
     }
-    writes::<{ xosera::XM_DATA }>("XM_DATA", &x);
-    reads::<{ xosera::XM_DATA }>("XM_DATA", &x);
-    writes::<{ xosera::XM_XDATA }>("XM_XDATA", &x);
-    reads::<{ xosera::XM_XDATA }>("XM_XDATA", &x);
-    writes::<{ xosera::XM_TIMER }>("XM_TIMER", &x);
-    reads::<{ xosera::XM_TIMER }>("XM_TIMER", &x);
+    compare("timer ticks", "Mcalls/s", CALLS, &x, Ticks);
+    compare("frame ends", "Mcalls/s", CALLS, &x, FrameEnds);
+    let mut up = x;
+    up.frame_end().expect("a frame end that is done");
+    compare("interrupt line questions", "Mcalls/s", CALLS, &up, Lines);
 }

@@ -2,7 +2,7 @@
 
 use std::collections::VecDeque;
 
-use crate::convert::to_model;
+use crate::convert::{typed, Words, NARROW};
 use crate::pair::{Call, Lent};
 use crate::random::Random;
 
@@ -105,12 +105,11 @@ impl Calls {
 
     /// A number of steps: few, all that are left, one more or less, or without end.
     fn steps(&mut self, s: &xosera::State) -> u64 {
-        let s = to_model(s);
         let few = self.random.below(40);
-        if !s.in_range() {
-            return few;
-        }
-        let left = model::words_left(&s);
+        let left = match typed(s.words()) {
+            Some(s) if s.in_range() => model::words_left(&s),
+            _ => return few,
+        };
         if left > LONGEST_RUN {
             return few;
         }
@@ -155,8 +154,8 @@ impl Calls {
     }
 
     fn plan(&mut self, s: &xosera::State) {
-        let busy = if s.queued { 6 } else { 2 };
-        if s.engine.running && !self.random.one_in(busy) {
+        let busy = if s.queued != 0 { 6 } else { 2 };
+        if s.engine.running != 0 && !self.random.one_in(busy) {
             return self.plan_steps();
         }
         match self.random.below(15) {
@@ -394,7 +393,7 @@ impl Calls {
             0 => 0,
             n => 1 + r.below(u64::from(n)) as u16,
         };
-        if s.engine.running {
+        if s.engine.running == 1 {
             let e = &mut s.engine;
             e.regs.lines &= MOST_LINES;
             if r.one_in(4) {
@@ -414,22 +413,22 @@ impl Calls {
             if e.word == 0 {
                 e.kept = 0;
             }
-            if s.queued && r.flip() {
+            if s.queued == 1 && r.flip() {
                 s.blit.lines = r.below(3) as u16 | s.blit.lines & 0x8000;
                 s.blit.words = r.below(5) as u16;
             }
         } else {
             s.engine = xosera::Engine::default();
-            s.queued = false;
+            s.queued = 0;
         }
         s
     }
 
-    /// A state in range with one part pushed out of it, or a state of any bits.
+    /// A state in range with one part pushed out of it, one or two words damaged, or any words.
     pub fn state_out_of_range(&mut self, s: xosera::State) -> xosera::State {
         let mut s = s;
         let r = &mut self.random;
-        match r.below(14) {
+        match r.below(20) {
             0 => s.host.vram.wr_mask |= r.pick(&[16, 32, 64, 128]),
             1 => s.host.int_mask |= 128,
             2 => s.status |= 128,
@@ -440,31 +439,31 @@ impl Calls {
             }
             5 => {
                 s.engine = xosera::Engine::default();
-                s.queued = true;
+                s.queued = 1;
             }
             6 => {
-                s.engine.running = true;
+                s.engine.running = 1;
                 s.engine.line = s.engine.regs.lines.wrapping_add(1);
             }
             7 => {
-                s.engine.running = true;
+                s.engine.running = 1;
                 s.engine.word = s.engine.regs.words.wrapping_add(1);
             }
             8 => {
-                s.engine.running = true;
+                s.engine.running = 1;
                 s.engine.regs.lines |= 0x8000;
             }
             9 => {
-                s.engine.running = true;
+                s.engine.running = 1;
                 s.engine.word = 0;
                 s.engine.kept = 1 + r.below(0xFFFF) as u16;
             }
             10 => {
-                s.engine.running = false;
+                s.engine.running = 0;
                 s.engine.kept = 1;
             }
             11 => {
-                s.engine.running = false;
+                s.engine.running = 0;
                 let e = &mut s.engine;
                 let field = [
                     &mut e.line,
@@ -486,20 +485,55 @@ impl Calls {
                     *f = u16::from(i == which) << r.below(16);
                 }
             }
-            12 => s.engine.running = !s.engine.running,
-            _ => s = self.any_state(),
+            12 => s.engine.running ^= 1,
+            13 => s = self.any_state(),
+            14 => s = xosera::State::from_words(self.any_words()),
+            15 => {
+                s = self.damaged(s);
+                s = self.damaged(s);
+            }
+            _ => s = self.damaged(s),
         }
         s
     }
 
-    /// A state of any bits.
+    /// One word changed, mostly one that is a byte or a flag, to what could be taken for another.
+    fn damaged(&mut self, s: xosera::State) -> xosera::State {
+        let mut words = *s.words();
+        let r = &mut self.random;
+        let number = match r.below(3) {
+            0 => r.below(words.len() as u64) as usize,
+            _ => r.pick(&NARROW),
+        };
+        let word = &mut words[number];
+        *word = match r.below(6) {
+            0 => r.word(),
+            1 => r.pick(&[2, 3, 16, 128, 255, 256, 257, 0x7FFF, 0x8000, 0xFF00, 0xFFFF]),
+            2 => *word | 0x0100,
+            3 => *word | 0x8000,
+            4 => *word ^ 1 << r.below(16),
+            _ => *word | (1 + r.below(255) as u16) << 8,
+        };
+        xosera::State::from_words(words)
+    }
+
+    /// Any 75 words.
+    fn any_words(&mut self) -> Words {
+        let mut words = [0; 75];
+        for word in words.iter_mut() {
+            *word = self.word();
+        }
+        words
+    }
+
+    /// A state of any bits, bytes and flags as wide as they should be.
     fn any_state(&mut self) -> xosera::State {
         let r = &mut self.random;
         let mut s = xosera::State::default();
         s.host.timer.count = if r.flip() { 0xFFFE } else { r.word() };
         s.host.timer.countdown = r.word();
         s.host.timer.interval = r.word();
-        s.host.timer.saved = r.byte();
+        s.host.timer.saved = u16::from(r.byte());
         s.host.xr.rd_xaddr.0 = r.pick(&XR_EDGES);
         s.host.xr.wr_xaddr.0 = r.pick(&XR_EDGES);
         s.host.xr.rd_xdata = r.word();
@@ -508,10 +542,10 @@ impl Calls {
         s.host.vram.wr_incr = r.word();
         s.host.vram.wr_addr.0 = r.word();
         s.host.vram.rd_data = r.word();
-        s.host.vram.wr_mask = r.byte();
-        s.host.int_mask = r.byte();
+        s.host.vram.wr_mask = u16::from(r.byte());
+        s.host.int_mask = u16::from(r.byte());
         for latch in s.host.latch.iter_mut() {
-            *latch = r.byte();
+            *latch = u16::from(r.byte());
         }
         s.video.vid_ctrl = r.word();
         s.video.copp_ctrl = r.word();
@@ -522,13 +556,13 @@ impl Calls {
             *word = r.word();
         }
         s.blit = any_blit(r);
-        s.engine.running = r.flip();
+        s.engine.running = u16::from(r.flip());
         s.engine.line = r.word();
         s.engine.word = r.word();
         s.engine.kept = r.word();
         s.engine.regs = any_blit(r);
-        s.queued = r.flip();
-        s.status = r.byte();
+        s.queued = u16::from(r.flip());
+        s.status = u16::from(r.byte());
         s
     }
 }

@@ -2,7 +2,7 @@
 
 use std::fmt;
 
-use crate::convert::{differences, to_model};
+use crate::convert::{differences, misfit, typed, words, Words};
 use crate::random::Random;
 
 /// A call with its arguments.
@@ -52,6 +52,30 @@ impl Memory {
 
     fn room(&self) -> usize {
         self.words.len() - 2 * MARGIN
+    }
+}
+
+/// A state with words on both sides that no call may touch.
+#[repr(C)]
+struct Fenced {
+    above: [u16; MARGIN],
+    state: xosera::State,
+    below: [u16; MARGIN],
+}
+
+const FENCE: [u16; MARGIN] = [0xA55A; MARGIN];
+
+impl Fenced {
+    fn new(state: xosera::State) -> Fenced {
+        Fenced {
+            above: FENCE,
+            state,
+            below: FENCE,
+        }
+    }
+
+    fn whole(&self) -> bool {
+        self.above == FENCE && self.below == FENCE
     }
 }
 
@@ -108,18 +132,21 @@ impl Pair {
         self.model_xr.words.clone_from(&self.library_xr.words);
     }
 
-    /// Do one call on both sides. State, answer, refusal and every word of both memories, also those
-    /// not lent, must agree; a refusal must leave all of them as they were. The state after it.
+    /// Do one call on both sides. Every word of the state, answer, refusal and every word of both
+    /// memories, also those not lent, must agree; a refusal must leave all of them as they were. The
+    /// state after it.
     pub fn call(
         &mut self,
         before: xosera::State,
         lent: Lent,
         call: Call,
     ) -> Result<(xosera::State, Said), Box<Mismatch>> {
+        let mut fenced = Fenced::new(before);
         let vram = self.library_vram.lent(lent.vram);
         let xr = self.library_xr.lent(lent.xr);
-        let (after, said) = on_library(before, vram, xr, call);
-        let (model_after, model_said) = self.on_model(before, lent, call);
+        let said = on_library(&mut fenced.state, vram, xr, call);
+        let after = fenced.state;
+        let (model_after, model_said) = self.on_model(before.words(), lent, call);
         let wrong = |what: String| {
             Err(Box::new(Mismatch {
                 call,
@@ -131,12 +158,12 @@ impl Pair {
         if said != model_said {
             return wrong(format!("library says {:?}, model {:?}", said, model_said));
         }
-        if to_model(&after) != model_after {
-            let fields = differences(&to_model(&after), &model_after);
-            return wrong(format!("the state after it differs:\n{}", fields));
+        if *after.words() != model_after {
+            let differing = differences(after.words(), &model_after);
+            return wrong(format!("the state after it differs:\n{}", differing));
         }
-        if said.refusal != 0 && after != before {
-            return wrong(format!("refused, but the state changed to {:#X?}", after));
+        if !fenced.whole() {
+            return wrong("a word beside the state changed".to_string());
         }
         let memories = [
             ("VRAM", &self.library_vram, &self.model_vram),
@@ -158,10 +185,11 @@ impl Pair {
         Ok((after, said))
     }
 
-    fn on_model(&mut self, s: xosera::State, lent: Lent, call: Call) -> (model::State, Said) {
+    /// The model's words afterwards: those before, if it refused.
+    fn on_model(&mut self, before: &Words, lent: Lent, call: Call) -> (Words, Said) {
         let vram = self.model_vram.lent(lent.vram);
         let xr = self.model_xr.lent(lent.xr);
-        let mut s = to_model(&s);
+        let mut s = typed(before).unwrap_or_else(misfit);
         let answer = match call {
             Call::Reset => {
                 s = model::State::reset();
@@ -175,14 +203,16 @@ impl Pair {
             Call::FrameEnd => s.frame_end().map(|()| 0),
             Call::Line => s.interrupt_line().map(u64::from),
         };
-        let said = match answer {
-            Ok(value) => Said { refusal: 0, value },
-            Err(refusal) => Said {
-                refusal: refusal as u8,
-                value: 0,
-            },
-        };
-        (s, said)
+        match answer {
+            Ok(value) => (words(&s), Said { refusal: 0, value }),
+            Err(refusal) => (
+                *before,
+                Said {
+                    refusal: refusal as u8,
+                    value: 0,
+                },
+            ),
+        }
     }
 
     /// The largest memories that can be lent.
@@ -194,43 +224,35 @@ impl Pair {
     }
 }
 
-/// One call to the library: the state after it, and what it says.
-pub fn on_library(
-    s: xosera::State,
-    vram: &mut [u16],
-    xr: &mut [u16],
-    call: Call,
-) -> (xosera::State, Said) {
+/// One call to the library: what it says.
+pub fn on_library(s: &mut xosera::State, vram: &mut [u16], xr: &mut [u16], call: Call) -> Said {
     let said = |refusal, value| Said { refusal, value };
     match call {
-        Call::Reset => (xosera::reset(), said(0, 0)),
+        Call::Reset => {
+            xosera::reset(s);
+            said(0, 0)
+        }
         Call::Write { reg, odd, byte } => {
             let a = xosera::write_byte(s, vram, xr, reg, odd, byte);
-            (a.state, said(a.refusal, 0))
+            said(a.refusal, 0)
         }
         Call::Read { reg, odd } => {
             let a = xosera::read_byte(s, vram, xr, reg, odd);
-            (a.state, said(a.refusal, u64::from(a.byte)))
+            said(a.refusal, u64::from(a.byte))
         }
         Call::Step => {
             let a = xosera::blit_step(s, vram, xr);
-            (a.state, said(a.refusal, a.count))
+            said(a.refusal, a.count)
         }
         Call::Run { n } => {
             let a = xosera::blit_run(s, vram, xr, n);
-            (a.state, said(a.refusal, a.count))
+            said(a.refusal, a.count)
         }
-        Call::Tick => {
-            let a = xosera::timer_tick(s);
-            (a.state, said(a.refusal, 0))
-        }
-        Call::FrameEnd => {
-            let a = xosera::frame_end(s);
-            (a.state, said(a.refusal, 0))
-        }
+        Call::Tick => said(xosera::timer_tick(s).refusal, 0),
+        Call::FrameEnd => said(xosera::frame_end(s).refusal, 0),
         Call::Line => {
             let a = xosera::interrupt_line(s);
-            (a.state, said(a.refusal, u64::from(a.up)))
+            said(a.refusal, u64::from(a.up))
         }
     }
 }

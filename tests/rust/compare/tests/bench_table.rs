@@ -2,7 +2,7 @@
 //!
 //! Registers not named are 0, masks F, targets FFFF.
 
-use compare::convert::to_model;
+use compare::convert::words;
 
 const VRAM_WORDS: usize = 256;
 const SOURCE: u16 = 0x10;
@@ -113,7 +113,10 @@ struct Plain {
 
 impl Machine for Plain {
     fn new() -> Self {
-        assert_eq!(model::State::reset(), to_model(&xosera::reset()));
+        assert_eq!(
+            words(&model::State::reset()),
+            *xosera::State::reset().words()
+        );
         Plain {
             state: model::State::reset(),
             vram: vec![0xFFFF; VRAM_WORDS],

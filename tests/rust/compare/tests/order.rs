@@ -8,7 +8,7 @@ use compare::pair::{on_library, Call, Said};
 use compare::random::Random;
 use compare::settings::{number, seed};
 
-const BLITTER_BIT: u8 = 1 << 6;
+const BLITTER_BIT: u16 = 1 << 6;
 
 #[derive(Clone)]
 struct Adapter {
@@ -19,9 +19,7 @@ struct Adapter {
 
 impl Adapter {
     fn call(&mut self, call: Call) -> Said {
-        let (after, said) = on_library(self.state, &mut self.vram, &mut self.xr, call);
-        self.state = after;
-        said
+        on_library(&mut self.state, &mut self.vram, &mut self.xr, call)
     }
 
     fn place(&self, addr: u16) -> usize {
@@ -44,7 +42,7 @@ fn footprint(started: &Adapter) -> Footprint {
         writes: vec![false; x.vram.len()],
         words: 0,
     };
-    while x.state.engine.running {
+    while x.state.engine.running == 1 {
         let regs = x.state.engine.regs;
         if regs.ctrl & 1 == 0 {
             f.reads[x.place(regs.src_s)] = true;
@@ -65,7 +63,7 @@ fn footprint(started: &Adapter) -> Footprint {
 /// May this event stand in the list? Judged where it stands.
 fn allowed(x: &Adapter, f: &Footprint, call: Call) -> bool {
     let port = &x.state.host.vram;
-    let latch = |reg: u8| u16::from(x.state.host.latch[reg as usize]) << 8;
+    let latch = |reg: u8| x.state.host.latch[reg as usize] << 8;
     match call {
         Call::Reset => false,
         Call::Write {
@@ -122,7 +120,7 @@ fn one_list(list: u64, seed: u64) -> (u64, u64) {
 
     // Any idle adapter, about to start a blit of some 1 to 64 words.
     x.state.engine = xosera::Engine::default();
-    x.state.queued = false;
+    x.state.queued = 0;
     x.state.host.xr.wr_xaddr.0 = 0x49;
     x.state.host.latch[5] = 0;
     x.state.blit.lines = calls.random().below(8) as u16 | x.state.blit.lines & 0x8000;

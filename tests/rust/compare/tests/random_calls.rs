@@ -4,7 +4,7 @@
 //! XOSERA_SEED=n    the calls of an earlier run again (from the clock unless set)
 
 use compare::calls::{Calls, VRAM_LENGTHS, XR_EDGES};
-use compare::convert::to_model;
+use compare::convert::{fits, in_range, typed, NARROW};
 use compare::pair::{Call, Lent, Pair};
 use compare::random::Random;
 use compare::settings::{number, seed};
@@ -32,6 +32,8 @@ struct Tally {
     idle: u64,
     expired: u64,
     line_up: u64,
+    /// States with one word alone that does not fit its byte or flag, by `NARROW`.
+    misfits: [u64; 22],
 }
 
 impl Tally {
@@ -44,9 +46,10 @@ impl Tally {
             self.constant += u64::from(r.ctrl & 1 == 1);
             self.colour += u64::from(r.ctrl & 0x10 != 0);
             self.one_word_lines += u64::from(r.words == 0);
-            self.wrapped += u64::from(after.engine.running && after.engine.regs.dst_d < r.dst_d);
-            self.followed += u64::from(before.queued && !after.queued);
-            self.idle += u64::from(!after.engine.running);
+            self.wrapped +=
+                u64::from(after.engine.running == 1 && after.engine.regs.dst_d < r.dst_d);
+            self.followed += u64::from(before.queued == 1 && after.queued == 0);
+            self.idle += u64::from(after.engine.running == 0);
         }
         if let Call::Write {
             reg: 5, odd: true, ..
@@ -56,8 +59,13 @@ impl Tally {
             if let Some(i) = XR_EDGES.iter().position(|&edge| edge == at) {
                 self.edges[i] += 1;
             }
-            self.started += u64::from(!before.engine.running && after.engine.running);
-            self.queued += u64::from(!before.queued && after.queued);
+            self.started += u64::from(before.engine.running == 0 && after.engine.running == 1);
+            self.queued += u64::from(before.queued == 0 && after.queued == 1);
+        }
+        let misfit = |&number: &usize| !fits(number, before.words()[number]);
+        let mut misfits = (0..).zip(&NARROW).filter(|&(_, number)| misfit(number));
+        if let (Some((i, _)), None) = (misfits.next(), misfits.next()) {
+            self.misfits[i] += 1;
         }
         self.expired += u64::from(call == Call::Tick && before.host.timer.countdown == 1);
         self.line_up += u64::from(call == Call::Line && value == 1);
@@ -103,6 +111,10 @@ impl Tally {
             self.line_up,
             self.edges.iter().min().unwrap()
         );
+        println!(
+            "  words      each byte and flag alone out of range at least {} times",
+            self.misfits.iter().min().unwrap()
+        );
     }
 
     /// Everything that the papers speak of has happened.
@@ -112,6 +124,7 @@ impl Tally {
             &self.refusals[..],
             &self.lengths[..],
             &self.edges[..],
+            &self.misfits[..],
             &[
                 self.shifted,
                 self.constant,
@@ -164,7 +177,7 @@ fn episode(calls: &mut Calls, tally: &mut Tally, length: usize, n: u64) -> Resul
     };
     let mut pair = Pair::new(room);
     pair.fill(calls.random());
-    let mut state = xosera::reset();
+    let mut state = xosera::State::reset();
     for i in 0..n {
         if calls.random().one_in(300) {
             state = calls.state_in_range();
@@ -182,7 +195,7 @@ fn episode(calls: &mut Calls, tally: &mut Tally, length: usize, n: u64) -> Resul
             .map_err(|mismatch| format!("call {} of the episode\n{}", i, mismatch))?;
         if said.refusal == 0 {
             if let Some(steps) = asked(call) {
-                let left = model::words_left(&to_model(&before));
+                let left = model::words_left(&typed(before.words()).expect("not refused"));
                 assert_eq!(
                     said.value,
                     steps.min(left),
@@ -197,7 +210,7 @@ fn episode(calls: &mut Calls, tally: &mut Tally, length: usize, n: u64) -> Resul
         tally.refusals[said.refusal as usize] += 1;
         tally.lengths[length] += 1;
         tally.count(&before, &after, call, said.value);
-        if !astray || to_model(&before).in_range() {
+        if !astray || in_range(before.words()) {
             state = after;
         }
     }

@@ -25,6 +25,14 @@ impl fmt::Display for Refusal {
 
 impl std::error::Error for Refusal {}
 
+/// The answer, or the refusal.
+fn done<T>(answer: T, refusal: u8) -> Result<T, Refusal> {
+    match refusal {
+        0 => Ok(answer),
+        number => Err(Refusal(number)),
+    }
+}
+
 /// An adapter that owns its memories. All fields are open: a test may set up any situation.
 #[derive(Clone, Debug, PartialEq, Eq)]
 pub struct Adapter {
@@ -37,29 +45,20 @@ impl Adapter {
     /// A reset adapter over memories full of 0.
     pub fn new(vram_words: usize) -> Adapter {
         Adapter {
-            state: crate::reset(),
+            state: State::reset(),
             vram: vec![0; vram_words],
             xr: vec![0; XR_WORDS],
         }
     }
 
-    fn take(&mut self, state: State, refusal: u8) -> Result<(), Refusal> {
-        self.state = state;
-        match refusal {
-            0 => Ok(()),
-            number => Err(Refusal(number)),
-        }
-    }
-
     pub fn write_byte(&mut self, reg: u8, odd: bool, byte: u8) -> Result<(), Refusal> {
-        let a = crate::write_byte(self.state, &mut self.vram, &mut self.xr, reg, odd, byte);
-        self.take(a.state, a.refusal)
+        let (s, vram, xr) = (&mut self.state, &mut self.vram, &mut self.xr);
+        done((), crate::write_byte(s, vram, xr, reg, odd, byte).refusal)
     }
 
     pub fn read_byte(&mut self, reg: u8, odd: bool) -> Result<u8, Refusal> {
-        let a = crate::read_byte(self.state, &self.vram, &self.xr, reg, odd);
-        self.take(a.state, a.refusal)?;
-        Ok(a.byte)
+        let a = crate::read_byte(&mut self.state, &self.vram, &self.xr, reg, odd);
+        done(a.byte, a.refusal)
     }
 
     /// The even byte, then the odd one.
@@ -89,33 +88,26 @@ impl Adapter {
 
     /// One word of blitting; 1, or 0 when idle.
     pub fn blit_step(&mut self) -> Result<u64, Refusal> {
-        let a = crate::blit_step(self.state, &mut self.vram, &self.xr);
-        self.take(a.state, a.refusal)?;
-        Ok(a.count)
+        let a = crate::blit_step(&mut self.state, &mut self.vram, &self.xr);
+        done(a.count, a.refusal)
     }
 
     /// Up to `n` words of blitting; how many were done.
     pub fn blit_run(&mut self, n: u64) -> Result<u64, Refusal> {
-        let a = crate::blit_run(self.state, &mut self.vram, &self.xr, n);
-        self.take(a.state, a.refusal)?;
-        Ok(a.count)
+        let a = crate::blit_run(&mut self.state, &mut self.vram, &self.xr, n);
+        done(a.count, a.refusal)
     }
 
     pub fn timer_tick(&mut self) -> Result<(), Refusal> {
-        let a = crate::timer_tick(self.state);
-        self.take(a.state, a.refusal)
+        done((), crate::timer_tick(&mut self.state).refusal)
     }
 
     pub fn frame_end(&mut self) -> Result<(), Refusal> {
-        let a = crate::frame_end(self.state);
-        self.take(a.state, a.refusal)
+        done((), crate::frame_end(&mut self.state).refusal)
     }
 
     pub fn interrupt_line(&self) -> Result<bool, Refusal> {
-        let a = crate::interrupt_line(self.state);
-        match a.refusal {
-            0 => Ok(a.up),
-            number => Err(Refusal(number)),
-        }
+        let a = crate::interrupt_line(&self.state);
+        done(a.up, a.refusal)
     }
 }

@@ -32,7 +32,7 @@ pub struct Timer {
     pub count: u16,
     pub countdown: u16,
     pub interval: u16,
-    pub saved: u8,
+    pub saved: u16,
 }
 
 #[repr(C)]
@@ -51,17 +51,17 @@ pub struct VramPort {
     pub wr_incr: u16,
     pub wr_addr: VramAddr,
     pub rd_data: u16,
-    pub wr_mask: u8,
+    pub wr_mask: u16,
 }
 
 #[repr(C)]
 #[derive(Clone, Copy, Debug, Default, PartialEq, Eq)]
 pub struct Host {
-    pub latch: [u8; 16],
+    pub latch: [u16; 16],
     pub xr: XrPort,
     pub vram: VramPort,
     pub timer: Timer,
-    pub int_mask: u8,
+    pub int_mask: u16,
 }
 
 #[repr(C)]
@@ -94,37 +94,62 @@ pub struct BlitRegs {
 #[repr(C)]
 #[derive(Clone, Copy, Debug, Default, PartialEq, Eq)]
 pub struct Engine {
-    pub running: bool,
+    pub running: u16,
     pub line: u16,
     pub word: u16,
     pub kept: u16,
     pub regs: BlitRegs,
 }
 
-/// The whole state but for the memories. [`crate::reset`] makes one; `default` is all 0.
+/// The whole state but for the memories: 75 words, flags (0 or 1) and bytes too, and no padding.
+/// [`State::reset`] makes one; `default` is all 0.
 #[repr(C)]
 #[derive(Clone, Copy, Debug, Default, PartialEq, Eq)]
 pub struct State {
     pub host: Host,
-    pub queued: bool,
-    pub status: u8,
+    pub queued: u16,
+    pub status: u16,
     pub engine: Engine,
     pub video: Video,
     pub blit: BlitRegs,
+}
+
+/// Words of the state.
+pub const STATE_WORDS: usize = 75;
+
+const _: [(); 2 * STATE_WORDS] = [(); std::mem::size_of::<State>()];
+
+impl State {
+    /// The state after reset.
+    pub fn reset() -> State {
+        let mut s = State::default();
+        crate::reset(&mut s);
+        s
+    }
+
+    /// The state as its words.
+    pub fn words(&self) -> &[u16; STATE_WORDS] {
+        // SAFETY: the struct is `repr(C)` and all of it is `u16`, as many as the array has.
+        unsafe { &*(self as *const State as *const [u16; STATE_WORDS]) }
+    }
+
+    /// The state of these words, in range or not.
+    pub fn from_words(words: [u16; STATE_WORDS]) -> State {
+        // SAFETY: as above, and every word is a `u16`.
+        unsafe { std::mem::transmute(words) }
+    }
 }
 
 /// In every answer `refusal` is 0 for done.
 #[repr(C)]
 #[derive(Clone, Copy, Debug, PartialEq, Eq)]
 pub struct WriteAnswer {
-    pub state: State,
     pub refusal: u8,
 }
 
 #[repr(C)]
 #[derive(Clone, Copy, Debug, PartialEq, Eq)]
 pub struct ReadAnswer {
-    pub state: State,
     pub refusal: u8,
     pub byte: u8,
 }
@@ -132,7 +157,6 @@ pub struct ReadAnswer {
 #[repr(C)]
 #[derive(Clone, Copy, Debug, PartialEq, Eq)]
 pub struct BlitAnswer {
-    pub state: State,
     pub refusal: u8,
     pub count: u64,
 }
@@ -140,14 +164,12 @@ pub struct BlitAnswer {
 #[repr(C)]
 #[derive(Clone, Copy, Debug, PartialEq, Eq)]
 pub struct StateAnswer {
-    pub state: State,
     pub refusal: u8,
 }
 
 #[repr(C)]
 #[derive(Clone, Copy, Debug, PartialEq, Eq)]
 pub struct LineAnswer {
-    pub state: State,
     pub refusal: u8,
     pub up: bool,
 }

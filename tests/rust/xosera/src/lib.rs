@@ -1,6 +1,7 @@
 //! Safe Rust calls to `libfirmware.a`, the model of the Xosera video adapter.
 //!
-//! The functions at the top level are the library's own eight calls, with the memories as slices.
+//! The functions at the top level are the library's own eight calls, with the state and the memories
+//! lent by reference.
 //! [`Adapter`] owns a state and both memories and answers with `Result`.
 //!
 //! ```
@@ -20,13 +21,14 @@ mod layout;
 pub use adapter::{Adapter, Refusal};
 pub use layout::*;
 
-mod ffi {
+/// The calls as C has them.
+pub mod ffi {
     use crate::layout::*;
 
     extern "C" {
-        pub fn xosera_reset() -> State;
+        pub fn xosera_reset(s: *mut State);
         pub fn xosera_write_byte(
-            s: State,
+            s: *mut State,
             vram: *mut u16,
             vram_len: usize,
             xr: *mut u16,
@@ -36,7 +38,7 @@ mod ffi {
             byte: u8,
         ) -> WriteAnswer;
         pub fn xosera_read_byte(
-            s: State,
+            s: *mut State,
             vram: *const u16,
             vram_len: usize,
             xr: *const u16,
@@ -45,38 +47,39 @@ mod ffi {
             odd: bool,
         ) -> ReadAnswer;
         pub fn xosera_blit_step(
-            s: State,
+            s: *mut State,
             vram: *mut u16,
             vram_len: usize,
             xr: *const u16,
             xr_len: usize,
         ) -> BlitAnswer;
         pub fn xosera_blit_run(
-            s: State,
+            s: *mut State,
             vram: *mut u16,
             vram_len: usize,
             xr: *const u16,
             xr_len: usize,
             n: u64,
         ) -> BlitAnswer;
-        pub fn xosera_timer_tick(s: State) -> StateAnswer;
-        pub fn xosera_frame_end(s: State) -> StateAnswer;
-        pub fn xosera_interrupt_line(s: State) -> LineAnswer;
+        pub fn xosera_timer_tick(s: *mut State) -> StateAnswer;
+        pub fn xosera_frame_end(s: *mut State) -> StateAnswer;
+        pub fn xosera_interrupt_line(s: *const State) -> LineAnswer;
     }
 }
 
-// SAFETY, for every call below: the structs are `repr(C)` with the library's fields and are passed by
-// value; a slice is its pointer and its length in words, lent for the call alone and, where it is
-// `&mut`, to nobody else. The library takes slices of any length and any state.
+// SAFETY, for every call below: the state is `repr(C)`, 75 words and no padding; a slice is its pointer
+// and its length in words. All are lent for the call alone and, where they are `&mut`, to nobody else,
+// so that none overlaps another that is written. The library takes slices of any length and any words
+// as state.
 
-/// The state after reset.
-pub fn reset() -> State {
-    unsafe { ffi::xosera_reset() }
+/// Fill the state as after reset.
+pub fn reset(s: &mut State) {
+    unsafe { ffi::xosera_reset(s) }
 }
 
 /// The host writes the high (`odd` false) or low byte of main register `reg`.
 pub fn write_byte(
-    s: State,
+    s: &mut State,
     vram: &mut [u16],
     xr: &mut [u16],
     reg: u8,
@@ -88,41 +91,32 @@ pub fn write_byte(
 }
 
 /// The host reads the high (`odd` false) or low byte of main register `reg`.
-pub fn read_byte(s: State, vram: &[u16], xr: &[u16], reg: u8, odd: bool) -> ReadAnswer {
-    unsafe {
-        ffi::xosera_read_byte(
-            s,
-            vram.as_ptr(),
-            vram.len(),
-            xr.as_ptr(),
-            xr.len(),
-            reg,
-            odd,
-        )
-    }
+pub fn read_byte(s: &mut State, vram: &[u16], xr: &[u16], reg: u8, odd: bool) -> ReadAnswer {
+    let (v, vn) = (vram.as_ptr(), vram.len());
+    unsafe { ffi::xosera_read_byte(s, v, vn, xr.as_ptr(), xr.len(), reg, odd) }
 }
 
 /// The blitter does one word.
-pub fn blit_step(s: State, vram: &mut [u16], xr: &[u16]) -> BlitAnswer {
+pub fn blit_step(s: &mut State, vram: &mut [u16], xr: &[u16]) -> BlitAnswer {
     unsafe { ffi::xosera_blit_step(s, vram.as_mut_ptr(), vram.len(), xr.as_ptr(), xr.len()) }
 }
 
 /// The blitter does up to `n` words.
-pub fn blit_run(s: State, vram: &mut [u16], xr: &[u16], n: u64) -> BlitAnswer {
+pub fn blit_run(s: &mut State, vram: &mut [u16], xr: &[u16], n: u64) -> BlitAnswer {
     unsafe { ffi::xosera_blit_run(s, vram.as_mut_ptr(), vram.len(), xr.as_ptr(), xr.len(), n) }
 }
 
 /// A tenth of a millisecond passes.
-pub fn timer_tick(s: State) -> StateAnswer {
+pub fn timer_tick(s: &mut State) -> StateAnswer {
     unsafe { ffi::xosera_timer_tick(s) }
 }
 
 /// The visible picture ends.
-pub fn frame_end(s: State) -> StateAnswer {
+pub fn frame_end(s: &mut State) -> StateAnswer {
     unsafe { ffi::xosera_frame_end(s) }
 }
 
 /// Is the interrupt line up?
-pub fn interrupt_line(s: State) -> LineAnswer {
+pub fn interrupt_line(s: &State) -> LineAnswer {
     unsafe { ffi::xosera_interrupt_line(s) }
 }

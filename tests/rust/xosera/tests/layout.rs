@@ -1,0 +1,82 @@
+//! The structs' places: the state's fields are the words of their numbers, the answers are C's.
+
+use std::mem::{align_of, size_of};
+use std::ptr::addr_of;
+
+use xosera::{BlitAnswer, LineAnswer, ReadAnswer, State, StateAnswer, WriteAnswer, STATE_WORDS};
+
+fn numbered() -> State {
+    let mut words = [0; STATE_WORDS];
+    for (number, word) in (0..).zip(words.iter_mut()) {
+        *word = number;
+    }
+    State::from_words(words)
+}
+
+fn ten(b: &xosera::BlitRegs) -> [u16; 10] {
+    [
+        b.ctrl, b.andc, b.xor, b.mod_s, b.src_s, b.mod_d, b.dst_d, b.shift, b.lines, b.words,
+    ]
+}
+
+#[test]
+fn each_field_is_the_word_of_its_number() {
+    assert_eq!((size_of::<State>(), align_of::<State>()), (150, 2));
+    let s = numbered();
+    let (xr, vram, timer) = (s.host.xr, s.host.vram, s.host.timer);
+    let (e, v) = (s.engine, s.video);
+    let mut fields = s.host.latch.to_vec();
+    fields.extend([xr.rd_xaddr.0, xr.wr_xaddr.0, xr.rd_xdata]);
+    fields.extend([vram.rd_incr, vram.rd_addr.0, vram.wr_incr, vram.wr_addr.0]);
+    fields.extend([vram.rd_data, vram.wr_mask]);
+    fields.extend([timer.count, timer.countdown, timer.interval, timer.saved]);
+    fields.extend([s.host.int_mask, s.queued, s.status]);
+    fields.extend([e.running, e.line, e.word, e.kept]);
+    fields.extend(ten(&e.regs));
+    fields.extend([v.vid_ctrl, v.copp_ctrl, v.aud_ctrl, v.vid_left, v.vid_right]);
+    fields.extend(v.pa.iter().chain(&v.pb));
+    fields.extend(ten(&s.blit));
+    assert_eq!(fields, s.words());
+    assert_eq!(State::from_words(*s.words()), s);
+}
+
+#[test]
+fn a_field_set_is_a_word_set() {
+    let mut s = State::reset();
+    assert_eq!((s.words()[24], s.words()[50]), (15, 640));
+    assert_eq!(s.words().iter().filter(|&&w| w != 0).count(), 2);
+    s.host.latch[15] = 0xFFFF;
+    s.blit.words = 0x8000;
+    assert_eq!((s.words()[15], s.words()[74]), (0xFFFF, 0x8000));
+}
+
+#[test]
+fn answers_are_laid_out_as_in_c() {
+    let count = BlitAnswer {
+        refusal: 0,
+        count: 0,
+    };
+    let at = addr_of!(count.count) as usize - addr_of!(count) as usize;
+    assert_eq!((size_of::<BlitAnswer>(), at), (16, 8));
+    assert_eq!((size_of::<WriteAnswer>(), size_of::<StateAnswer>()), (1, 1));
+    assert_eq!((size_of::<ReadAnswer>(), size_of::<LineAnswer>()), (2, 2));
+}
+
+/// Words that no flag or byte can be are refused, and stay.
+#[test]
+fn words_out_of_range_are_refused() {
+    let mut x = xosera::Adapter::new(256);
+    for (number, word) in [(0, 256), (15, 0x8000), (28, 256), (30, 2), (32, 0x0100)] {
+        let mut words = *State::reset().words();
+        words[number] = word;
+        x.state = State::from_words(words);
+        let before = x.clone();
+        assert_eq!(x.write_byte(9, true, 1), Err(xosera::Refusal(3)));
+        assert_eq!(x.read_byte(2, false), Err(xosera::Refusal(3)));
+        assert_eq!(x.blit_run(10), Err(xosera::Refusal(3)));
+        assert_eq!(x.timer_tick(), Err(xosera::Refusal(3)));
+        assert_eq!(x.frame_end(), Err(xosera::Refusal(3)));
+        assert_eq!(x.interrupt_line(), Err(xosera::Refusal(3)));
+        assert_eq!(x, before);
+    }
+}
