@@ -44,7 +44,14 @@ another low high ss ts s t hs ht =
     let small : x < 16 = xor-lt 4 s t hs ht in
     let sum : bitAnd x 7 + 7 < 16 = omega (arith, and-le-r x 7) in
     let carried : (bitAnd xs low * 16 + bitAnd x 7) + (low * 16 + 7) ≡ (bitAnd xs low + low) * 16 + (bitAnd x 7 + 7) = omega arith in
-    rw (xor-block 4 ss ts s t hs ht, and-block 4 xs low x 7 small (omega arith), carried, or-block 4 (bitAnd xs low + low) xs (bitAnd x 7 + 7) x sum small, and-block 4 (bitOr (bitAnd xs low + low) xs) high (bitOr (bitAnd x 7 + 7) x) 8 (or-lt 4 (bitAnd x 7 + 7) x sum small) (omega arith), single s t hs ht)
+    rw (
+      xor-block 4 ss ts s t hs ht,
+      and-block 4 xs low x 7 small (omega arith),
+      carried,
+      or-block 4 (bitAnd xs low + low) xs (bitAnd x 7 + 7) x sum small,
+      and-block 4 (bitOr (bitAnd xs low + low) xs) high (bitOr (bitAnd x 7 + 7) x) 8 (or-lt 4 (bitAnd x 7 + 7) x sum small) (omega arith),
+      single s t hs ht,
+    )
 
 -- Top bits where a nibble is not equal.
 abbrev marks : Bool → Bool → Bool → Bool → ℕ
@@ -69,9 +76,12 @@ tops-marks t s ht hs =
     ∙ more 0x777 0x888 _ _ 0 0
     ∙ ap (λ (z : ℕ). z * 16 + cond (same s t 0 0) 0 8) (more 0x77 0x88 _ _ 1 1)
     ∙ ap (λ (z : ℕ). (z * 16 + cond (same s t 1 1) 0 8) * 16 + cond (same s t 0 0) 0 8) (more 7 8 _ _ 2 0)
-    ∙ ap (λ (z : ℕ). joined z (cond (same s t 2 0) 0 8) (cond (same s t 1 1) 0 8) (cond (same s t 0 0) 0 8)) (single (nibble 3 s) (nibble 1 t) (nibble-lt 3 s) (nibble-lt 1 t))
+    ∙ ap (λ (z : ℕ). joined z (cond (same s t 2 0) 0 8) (cond (same s t 1 1) 0 8) (cond (same s t 0 0) 0 8))
+    (single (nibble 3 s) (nibble 1 t) (nibble-lt 3 s) (nibble-lt 1 t))
   where
-    more : (low high ss ts k j : ℕ) → topsOf (low * 16 + 7) (high * 16 + 8) (bitXor (ss * 16 + nibble k s) (ts * 16 + nibble j t)) ≡ topsOf low high (bitXor ss ts) * 16 + cond (same s t k j) 0 8
+    more : (low high ss ts k j : ℕ) →
+        topsOf (low * 16 + 7) (high * 16 + 8) (bitXor (ss * 16 + nibble k s) (ts * 16 + nibble j t))
+        ≡ topsOf low high (bitXor ss ts) * 16 + cond (same s t k j) 0 8
     more low high ss ts k j = another low high ss ts (nibble k s) (nibble j t) (nibble-lt k s) (nibble-lt j t)
 
 -- A mask by the nibbles that are equal.
@@ -114,7 +124,9 @@ byte-eqb a b c d hb hd = go (eqb a c) (eqb b d) refl refl
 -- A byte of S against T.
 whole : (s t : ℕ) → t < 256 → (k : ℕ) → (same s t (k + 1) 1 && same s t k 0) ≡ eqb (nibble (k + 1) s * 16 + nibble k s) t
 unfolding nibble
-whole s t h k = byte-eqb (nibble (k + 1) s) (nibble k s) (nibble 1 t) (nibble 0 t) (nibble-lt k s) (nibble-lt 0 t) ∙ ap (eqb (nibble (k + 1) s * 16 + nibble k s)) (omega arith)
+whole s t h k =
+    byte-eqb (nibble (k + 1) s) (nibble k s) (nibble 1 t) (nibble 0 t) (nibble-lt k s) (nibble-lt 0 t)
+    ∙ ap (eqb (nibble (k + 1) s * 16 + nibble k s)) (omega arith)
 
 -- By bytes, both nibbles of each.
 pub byte-room : (z : ℕ) → joinedTops z ≤ 0x0808

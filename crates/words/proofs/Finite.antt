@@ -35,8 +35,9 @@ allWays f = bothWays (λ p. bothWays (λ q. bothWays (λ r. bothWays (f p q r)))
 
 pub ways : (f : Bool → Bool → Bool → Bool → Bool) → T (allWays f) → (p q r s : Bool) → T (f p q r s)
 ways f t p q r =
-    either (f p q r)
-    (either (λ r. bothWays (f p q r)) (either (λ q. bothWays (λ r. bothWays (f p q r))) (either (λ p. bothWays (λ q. bothWays (λ r. bothWays (f p q r)))) t p) q) r)
+    let at-p : T (bothWays (λ q. bothWays (λ r. bothWays (f p q r)))) = either (λ p. bothWays (λ q. bothWays (λ r. bothWays (f p q r)))) t p in
+    let at-q : T (bothWays (λ r. bothWays (f p q r))) = either (λ q. bothWays (λ r. bothWays (f p q r))) at-p q in
+    either (f p q r) (either (λ r. bothWays (f p q r)) at-q r)
 
 -- What holds at 0 to 3 holds below 4.
 pub four : (P : ℕ → Type 0) → P 0 → P 1 → P 2 → P 3 → (k : ℕ) → k < 4 → P k

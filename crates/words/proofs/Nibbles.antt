@@ -30,7 +30,8 @@ split w h =
     let b : w / 4096 ≡ w / 16 / 16 / 16 = omega arith in
     let l : w / 4096 < 16 = omega arith in
     let z : w / 1 ≡ w = omega arith in
-    rw (a, b, z) (folded w (w / 16) (w / 16 / 16) (w / 16 / 16 / 16) _ _ _ _ (digit w) (digit (w / 16)) (digit (w / 16 / 16)) (small (w / 16 / 16 / 16) (rw b at l)))
+    let top = small (w / 16 / 16 / 16) (rw b at l) in
+    rw (a, b, z) (folded w (w / 16) (w / 16 / 16) (w / 16 / 16 / 16) _ _ _ _ (digit w) (digit (w / 16)) (digit (w / 16 / 16)) top)
 
 pub nibble-lt : (k w : ℕ) → nibble k w < 16
 unfolding nibble
@@ -82,21 +83,31 @@ merged-bits m old new ho hn =
     n : (k : ℕ) → nibble k new < 16
     n k = nibble-lt k new
 
+    old-lt : (k : ℕ) (b : Bool) → bitAnd (nibble k old) (15 - full b) < 16
+    old-lt k b = and-lt 4 (nibble k old) (15 - full b) (o k) (rest-lt b)
+
+    new-lt : (k : ℕ) (b : Bool) → bitAnd (nibble k new) (full b) < 16
+    new-lt k b = and-lt 4 (nibble k new) (full b) (n k) (full-lt b)
+
+    each : (k : ℕ) (b : Bool) → bitOr (bitAnd (nibble k old) (15 - full b)) (bitAnd (nibble k new) (full b)) ≡ cond b (nibble k new) (nibble k old)
+    each k b = one b (nibble k old) (nibble k new) (o k) (n k)
+
     blended : (p q r s : Bool) →
         bitOr (bitAnd old (joined (15 - full p) (15 - full q) (15 - full r) (15 - full s))) (bitAnd new (joined (full p) (full q) (full r) (full s)))
         ≡ cond p (nibble 3 new) (nibble 3 old) * 16 ^ 3 + cond q (nibble 2 new) (nibble 2 old) * 16 ^ 2
         + cond r (nibble 1 new) (nibble 1 old) * 16 ^ 1 + cond s (nibble 0 new) (nibble 0 old) * 16 ^ 0
     blended p q r s =
-        ap₂ (λ (x y : ℕ). bitOr (bitAnd x (joined (15 - full p) (15 - full q) (15 - full r) (15 - full s))) (bitAnd y (joined (full p) (full q) (full r) (full s)))) (split old ho) (split new hn)
+        let ones = joined (full p) (full q) (full r) (full s) in
+        let zeros = joined (15 - full p) (15 - full q) (15 - full r) (15 - full s) in
+        ap₂ (λ (x y : ℕ). bitOr (bitAnd x zeros) (bitAnd y ones)) (split old ho) (split new hn)
         ∙ ap₂ bitOr
         (and-joined (nibble 3 old) (nibble 2 old) (nibble 1 old) (nibble 0 old) (15 - full p) (15 - full q) (15 - full r) (15 - full s)
         (o 2) (o 1) (o 0) (rest-lt q) (rest-lt r) (rest-lt s))
         (and-joined (nibble 3 new) (nibble 2 new) (nibble 1 new) (nibble 0 new) (full p) (full q) (full r) (full s)
         (n 2) (n 1) (n 0) (full-lt q) (full-lt r) (full-lt s))
         ∙ or-joined _ _ _ _ _ _ _ _
-        (and-lt 4 (nibble 2 old) (15 - full q) (o 2) (rest-lt q)) (and-lt 4 (nibble 1 old) (15 - full r) (o 1) (rest-lt r)) (and-lt 4 (nibble 0 old) (15 - full s) (o 0) (rest-lt s))
-        (and-lt 4 (nibble 2 new) (full q) (n 2) (full-lt q)) (and-lt 4 (nibble 1 new) (full r) (n 1) (full-lt r)) (and-lt 4 (nibble 0 new) (full s) (n 0) (full-lt s))
-        ∙ rw (one p (nibble 3 old) (nibble 3 new) (o 3) (n 3), one q (nibble 2 old) (nibble 2 new) (o 2) (n 2), one r (nibble 1 old) (nibble 1 new) (o 1) (n 1), one s (nibble 0 old) (nibble 0 new) (o 0) (n 0)) (omega arith)
+        (old-lt 2 q) (old-lt 1 r) (old-lt 0 s) (new-lt 2 q) (new-lt 1 r) (new-lt 0 s)
+        ∙ rw (each 3 p, each 2 q, each 1 r, each 0 s) (omega arith)
 
 -- A bit of a mask, also of the mask cut to four bits.
 bit-cut : (m k : ℕ) → m % 16 / 2 ^ k % 2 ≡ m / 2 ^ k % 2 → bit k (m % 16) ≡ bit k m
@@ -142,6 +153,8 @@ together m n = eqb (spread (bitAnd m n)) (bitAnd (spread m) (spread n))
 pub spread-and : (m n : ℕ) → spread (bitAnd m n) ≡ bitAnd (spread m) (spread n)
 unfolding spread bit together
 spread-and m n =
+    let all : T (allBelow 16 (together (m % 16))) = below 16 (λ (x : ℕ). allBelow 16 (together x)) tt (m % 16) (omega arith) in
+    let cut : T (together (m % 16) (n % 16)) = below 16 (together (m % 16)) all (n % 16) (omega arith) in
     sym (spread-cut (bitAnd m n)) ∙ ap spread (and-mod m n 4)
-    ∙ eqb→eq (spread (bitAnd (m % 16) (n % 16))) (bitAnd (spread (m % 16)) (spread (n % 16))) (below 16 (together (m % 16)) (below 16 (λ (x : ℕ). allBelow 16 (together x)) tt (m % 16) (omega arith)) (n % 16) (omega arith))
+    ∙ eqb→eq (spread (bitAnd (m % 16) (n % 16))) (bitAnd (spread (m % 16)) (spread (n % 16))) cut
     ∙ ap₂ bitAnd (spread-cut m) (spread-cut n)

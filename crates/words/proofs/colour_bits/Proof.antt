@@ -15,20 +15,24 @@ add-tops : tie.Need-add-tops
 add-tops c = omega (arith, and-le-r (bitXor (c .args .s) (c .args .t * 0x0101)) 0x7777)
 
 mul-result : tie.Need-mul-result
-mul-result c = omega (arith, byte-room (colourTops (c .before .args .t) (c .before .args .s)))
+mul-result c =
+    let a = c .before .args in
+    omega (arith, byte-room (colourTops (a .t) (a .s)))
 
 returns : tie.Need-returns
 returns c =
-    let a = c .before .args in
-    rw (c .if1 .taken) (byte-bits (a .t) (a .s) (c .before .pre) (c .before .fits .s .fits))
+    let start = c .before in
+    rw (c .if1 .taken) (byte-bits (start .args .t) (start .args .s) (start .pre) (start .fits .s .fits))
 
 mul-result-2 : tie.Need-mul-result-2
-mul-result-2 c = omega (arith, nibble-room (c .before .args .t) (c .before .args .s))
+mul-result-2 c =
+    let a = c .before .args in
+    omega (arith, nibble-room (a .t) (a .s))
 
 returns-2 : tie.Need-returns-2
 returns-2 c =
-    let a = c .before .args in
-    rw (c .if1 .left) (nibble-bits (a .t) (a .s) (c .before .pre) (c .before .fits .s .fits))
+    let start = c .before in
+    rw (c .if1 .left) (nibble-bits (start .args .t) (start .args .s) (start .pre) (start .fits .s .fits))
 
 pub colour-bits-spec : {M : Type 1} → statement M
 colour-bits-spec =
