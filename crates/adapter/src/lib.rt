@@ -56,7 +56,8 @@ pub fn read_byte(s: &mut [u16; 75], vram: &[u16], xr: &[u16], reg: u8, odd: bool
         ⌝ }
     ensures refused { λ r. ⌜ Untouched (ofRead r) (now (s .entry)) (now (s .exit)) ⌝ }
 {
-    let refusal = refusals::read_refusal(s, vram.len(), xr.len(), reg);
+    let registers = ranges::registers_in_range(s);
+    let refusal = refusals::read_refusal(s, registers, vram.len(), xr.len(), reg);
     if refusal != 0 {
         return ReadAnswer { refusal, byte: 0 };
     }
@@ -73,7 +74,8 @@ pub fn blit_step(s: &mut [u16; 75], vram: &mut [u16], xr: &[u16]) -> BlitAnswer
         ⌝ }
     ensures refused { λ r. ⌜ Untouched (ofBlit r) (now (s .entry)) (now (s .exit)) ⌝ }
 {
-    let refusal = refusals::step_refusal(s, vram.len(), xr.len());
+    let registers = ranges::registers_in_range(s);
+    let refusal = refusals::lent_refusal(s, registers, vram.len(), xr.len());
     if refusal != 0 {
         return BlitAnswer { refusal, count: 0 };
     }
@@ -89,7 +91,8 @@ pub fn blit_run(s: &mut [u16; 75], vram: &mut [u16], xr: &[u16], n: u64) -> Blit
         ⌝ }
     ensures refused { λ r. ⌜ Untouched (ofBlit r) (now (s .entry)) (now (s .exit)) ⌝ }
 {
-    let refusal = refusals::lent_refusal(s, vram.len(), xr.len());
+    let registers = ranges::registers_in_range(s);
+    let refusal = refusals::lent_refusal(s, registers, vram.len(), xr.len());
     if refusal != 0 {
         return BlitAnswer { refusal, count: 0 };
     }
@@ -102,7 +105,8 @@ pub fn timer_tick(s: &mut [u16; 75]) -> StateAnswer
     ensures done { λ r. ⌜ ((v x : List ℕ) → Does (adapterAt (now (s .entry)) v x) (call tick) (ofState r) (adapterAt (now (s .exit)) v x)) ⌝ }
     ensures refused { λ r. ⌜ Untouched (ofState r) (now (s .entry)) (now (s .exit)) ⌝ }
 {
-    let refusal = refusals::state_refusal(s);
+    let registers = ranges::registers_in_range(s);
+    let refusal = refusals::state_refusal(s, registers);
     if refusal != 0 {
         return StateAnswer { refusal };
     }
@@ -115,7 +119,8 @@ pub fn frame_end(s: &mut [u16; 75]) -> StateAnswer
     ensures done { λ r. ⌜ ((v x : List ℕ) → Does (adapterAt (now (s .entry)) v x) (call frameEnd) (ofState r) (adapterAt (now (s .exit)) v x)) ⌝ }
     ensures refused { λ r. ⌜ Untouched (ofState r) (now (s .entry)) (now (s .exit)) ⌝ }
 {
-    let refusal = refusals::state_refusal(s);
+    let registers = ranges::registers_in_range(s);
+    let refusal = refusals::state_refusal(s, registers);
     if refusal != 0 {
         return StateAnswer { refusal };
     }
@@ -127,7 +132,8 @@ pub fn frame_end(s: &mut [u16; 75]) -> StateAnswer
 pub fn interrupt_line(s: &[u16; 75]) -> LineAnswer
     ensures { λ r. ⌜ ((v x : List ℕ) → Does (adapterAt (now (s .entry)) v x) (call line) (ofLine r) (adapterAt (now (s .entry)) v x)) ⌝ }
 {
-    let refusal = refusals::state_refusal(s);
+    let registers = ranges::registers_in_range(s);
+    let refusal = refusals::state_refusal(s, registers);
     if refusal != 0 {
         return LineAnswer { refusal, up: false };
     }

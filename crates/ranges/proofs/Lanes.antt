@@ -1,13 +1,13 @@
 -- Four words as one number: tested at once, each is tested.
 use mathlib.Core.Path.{_≡_, refl, sym, ap, ap₂, _∙_}
-use mathlib.Core.Bool.{Bool, true, false, _&&_, and-true, and-assoc}
+use mathlib.Core.Bool.{Bool, true, false, _&&_, and-assoc}
 use mathlib.Core.List.{List, [], _∷_, _++_}
 use Prim.Native.Nat.{ℕ, _+_, _-_, _*_, _/_, _^_, _≤_, _<_}
 use native.Mathlib.Nat.{zero-mul, div-eq-of-lt, le-div-iff-mul-le, mul-pos}
 use native.Mathlib.Omega.{arith}
 use native.Mathlib.Decide.{ℕ-discrete, decLt}
 use borrow.Author.Tests.{lt-leb, le-leb, eq-eqb, ne-eqb}
-use lib.Bits.{bitAnd, bitOr, and-block, and-high, and-zero-r, or-add-and, and-le-l, and-le-r}
+use lib.Bits.{bitAnd, bitOr, and-block, and-high, or-add-and, and-le-l, and-le-r}
 use lib.Dec.{eqb, leb}
 use lib.Pow.{pow-pos, shr-mod}
 use Rattle.xosera.specs.Refusals.{areBytes}
@@ -68,14 +68,6 @@ lanes-bytes a b c d r l =
     four-bytes true true false t = refl
     four-bytes true true true false = refl
     four-bytes true true true true = refl
-
--- A byte, seven bits, any word, seven bits.
-pub lanes-bits : (a b c d r : ℕ) → Lanes a b c d r → eqb (bitAnd r 0xFF800000FF80FF00) 0 ≡ leb a 255 && leb b 127 && leb d 127
-lanes-bits a b c d r l =
-    ap (λ (t : ℕ). eqb (bitAnd t 0xFF800000FF80FF00) 0) (l .sum)
-    ∙ ap (λ (t : ℕ). eqb t 0) (lanes-and a b c d 0xFF00 0xFF80 0 0xFF80 (l .a-fits) (l .b-fits) (l .c-fits) (omega arith) (omega arith) (omega arith))
-    ∙ lanes-none (bitAnd a 0xFF00) (bitAnd b 0xFF80) (bitAnd c 0) (bitAnd d 0xFF80)
-    ∙ rw (low-bits a 8 8 (l .a-fits), low-bits b 9 7 (l .b-fits), and-zero-r c, low-bits d 9 7 (l .d-fits), and-true (leb a 255 && leb b 127))
 
 -- Bits put together are all 0 when each is.
 pub or-none : (a b : ℕ) → eqb (bitOr a b) 0 ≡ eqb a 0 && eqb b 0

@@ -1,4 +1,4 @@
 -- What every test of a range is answered by.
 pub mod Tests
 pub mod Lanes
-pub mod Order
+pub mod Halves

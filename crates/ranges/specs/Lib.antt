@@ -1,2 +1,3 @@
--- What several words tested at once amount to.
+-- What several words tested at once amount to, and the two halves of the ranges.
 pub mod Lanes
+pub mod Halves

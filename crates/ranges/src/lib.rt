@@ -1,10 +1,13 @@
-// The ranges of the state. Every call tests them first, so four words are tested at once wherever that can be done.
+// The ranges of the state, in two tests: the registers and the blitter. Every call makes both first. Each is short enough
+// for the compiler to put it into every call, which both in one function are not. Sixteen latches and an idle engine are
+// tested four words at once; the others word by word, because a read of four words waits for a store to any of them.
 use xosera::COUNTDOWN;
 use xosera::ENGINE_CTRL;
 use xosera::ENGINE_DST_D;
 use xosera::ENGINE_LINES;
 use xosera::ENGINE_SRC_S;
 use xosera::ENGINE_WORDS;
+use xosera::INT_MASK;
 use xosera::INTERVAL;
 use xosera::KEPT;
 use xosera::LATCHES;
@@ -13,14 +16,16 @@ use xosera::NIBBLES;
 use xosera::QUEUED;
 use xosera::RUNNING;
 use xosera::SAVED;
+use xosera::STATUS;
 use xosera::WORD;
 ghost use mathlib.Core.Path.{_≡_};
 ghost use mathlib.Core.List.{[], _∷_};
 ghost use Prim.Native.Nat.{_+_, _<_};
 ghost use lib.Dec.{eqb};
 ghost use Rattle.xosera.specs.State.{wordAt, stateAt};
-ghost use Rattle.ranges.specs.Lanes.{Lanes, bitsInRange};
-ghost use Rattle.xosera.specs.Refusals.{timerInRange, areBytes, runningInRange, idleInRange, engineInRange, inRange};
+ghost use Rattle.ranges.specs.Lanes.{Lanes};
+ghost use Rattle.ranges.specs.Halves.{registersInRange, blitterInRange};
+ghost use Rattle.xosera.specs.Refusals.{timerInRange, areBytes, runningInRange, idleInRange, engineInRange};
 
 // Four words as one number, the first lowest.
 fn packed(a: u16, b: u16, c: u16, d: u16) -> u64
@@ -74,24 +79,38 @@ fn latches_in_range(s: &[u16; 75]) -> bool
     (low | high) == 0
 }
 
-// The saved byte, the interrupt mask and the status, with the queue's flag between them: none has a bit that it must not
-// have.
-fn bits_in_range(s: &[u16; 75]) -> bool
-    ensures { λ r. ⌜ r ≡ bitsInRange (stateAt (now (s .entry))) ⌝ }
+// The main registers and the interrupt status, in the order of the definitions.
+pub fn registers_in_range(s: &[u16; 75]) -> bool
+    ensures { λ r. ⌜ r ≡ registersInRange (stateAt (now (s .entry))) ⌝ }
 {
-    four(s, SAVED) & 0xFF80_0000_FF80_FF00 == 0
+    if s[NIBBLES] > 15 {
+        return false;
+    }
+    if s[INT_MASK] > 127 {
+        return false;
+    }
+    if !timer_in_range(s) {
+        return false;
+    }
+    if s[SAVED] > 255 {
+        return false;
+    }
+    if !latches_in_range(s) {
+        return false;
+    }
+    s[STATUS] <= 127
 }
 
 fn running_in_range(s: &[u16; 75]) -> bool
     ensures { λ r. ⌜ r ≡ runningInRange (stateAt (now (s .entry)) .engine) ⌝ }
 {
+    if s[ENGINE_LINES] > 32767 {
+        return false;
+    }
     if s[LINE] > s[ENGINE_LINES] {
         return false;
     }
     if s[WORD] > s[ENGINE_WORDS] {
-        return false;
-    }
-    if s[ENGINE_LINES] > 32767 {
         return false;
     }
     if s[WORD] != 0 {
@@ -119,22 +138,10 @@ fn engine_in_range(s: &[u16; 75]) -> bool
     }
 }
 
-// The whole state within its ranges.
-pub fn in_range(s: &[u16; 75]) -> bool
-    ensures { λ r. ⌜ r ≡ inRange (stateAt (now (s .entry))) ⌝ }
+// The queue and the engine.
+pub fn blitter_in_range(s: &[u16; 75]) -> bool
+    ensures { λ r. ⌜ r ≡ blitterInRange (stateAt (now (s .entry))) ⌝ }
 {
-    if s[NIBBLES] > 15 {
-        return false;
-    }
-    if !bits_in_range(s) {
-        return false;
-    }
-    if !timer_in_range(s) {
-        return false;
-    }
-    if !latches_in_range(s) {
-        return false;
-    }
     if s[QUEUED] > s[RUNNING] {
         return false;
     }

@@ -1,4 +1,5 @@
-// The refusals of every call, tested in their order.
+// The refusals of every call, tested in their order. Where a function takes `registers`, its caller has tested the registers
+// already, so that the function is short enough for the compiler to put it into every call.
 use xosera::QUEUED;
 use xosera::WR_XADDR;
 ghost use mathlib.Core.Path.{_≡_};
@@ -11,13 +12,18 @@ ghost use Rattle.xosera.specs.Adapter.{adapterAt};
 ghost use Rattle.xosera.specs.XrSpace.{isBlitRegister};
 ghost use Rattle.xosera.specs.Events.{write, read, call};
 ghost use Rattle.xosera.specs.Refusals.{inRange, blitterFull, reconfigures, _when_, first, refusal};
+ghost use Rattle.ranges.specs.Halves.{registersInRange};
 ghost use Rattle.refusals.specs.Tested.{lengthsRefusal, lentRefusal};
 
 // Refusal 3, the only one of a timer tick, a frame end and the line question.
-pub fn state_refusal(s: &[u16; 75]) -> u8
+pub fn state_refusal(s: &[u16; 75], registers: bool) -> u8
+    requires { ⌜ registers ≡ registersInRange (stateAt (now s)) ⌝ }
     ensures { λ r. ⌜ r ≡ first ((3 when not (inRange (stateAt (now (s .entry))))) ∷ []) ⌝ }
 {
-    if ranges::in_range(s) { 0 } else { 3 }
+    if !registers {
+        return 3;
+    }
+    if ranges::blitter_in_range(s) { 0 } else { 3 }
 }
 
 // Refusals 1 and 2: the lengths of the memories.
@@ -33,33 +39,24 @@ fn lengths_refusal(vram: usize, xr: usize) -> u8
     0
 }
 
-// Refusals 1 to 3, those of a run and the first of a byte read.
-pub fn lent_refusal(s: &[u16; 75], vram: usize, xr: usize) -> u8
+// Refusals 1 to 3, those of a blit step and a run and the first of a byte read.
+pub fn lent_refusal(s: &[u16; 75], registers: bool, vram: usize, xr: usize) -> u8
+    requires { ⌜ registers ≡ registersInRange (stateAt (now s)) ⌝ }
     ensures { λ r. ⌜ r ≡ lentRefusal vram xr (stateAt (now (s .entry))) ⌝ }
 {
     let lengths = lengths_refusal(vram, xr);
     if lengths != 0 {
         return lengths;
     }
-    state_refusal(s)
-}
-
-// The same for a blit step: a function with one caller is compiled into it, and a step is too short for a call.
-pub fn step_refusal(s: &[u16; 75], vram: usize, xr: usize) -> u8
-    ensures { λ r. ⌜ r ≡ lentRefusal vram xr (stateAt (now (s .entry))) ⌝ }
-{
-    let lengths = lengths_refusal(vram, xr);
-    if lengths != 0 {
-        return lengths;
-    }
-    state_refusal(s)
+    state_refusal(s, registers)
 }
 
 // Refusals 1 to 4, those of a byte read.
-pub fn read_refusal(s: &[u16; 75], vram: usize, xr: usize, reg: u8) -> u8
+pub fn read_refusal(s: &[u16; 75], registers: bool, vram: usize, xr: usize, reg: u8) -> u8
+    requires { ⌜ registers ≡ registersInRange (stateAt (now s)) ⌝ }
     ensures { λ r. ⌜ ((v x : List ℕ) (odd : Bool) → length v ≡ vram → length x ≡ xr → r ≡ refusal (adapterAt (now (s .entry)) v x) (call (read reg odd))) ⌝ }
 {
-    let lent = lent_refusal(s, vram, xr);
+    let lent = lent_refusal(s, registers, vram, xr);
     if lent != 0 {
         return lent;
     }
@@ -100,7 +97,8 @@ fn odd_refusal(s: &[u16; 75], reg: u8, byte: u8) -> u8
     0
 }
 
-// Refusals 1 to 6, those of a byte write. It tests the state itself, so that no call is left in a byte write.
+// Refusals 1 to 6, those of a byte write. It tests the registers itself, between the lengths and the blitter: here that is
+// faster.
 pub fn write_refusal(s: &[u16; 75], vram: usize, xr: usize, reg: u8, odd: bool, byte: u8) -> u8
     ensures { λ r. ⌜ ((v x : List ℕ) → length v ≡ vram → length x ≡ xr → r ≡ refusal (adapterAt (now (s .entry)) v x) (call (write reg odd byte))) ⌝ }
 {
@@ -108,7 +106,7 @@ pub fn write_refusal(s: &[u16; 75], vram: usize, xr: usize, reg: u8, odd: bool, 
     if lengths != 0 {
         return lengths;
     }
-    let state = state_refusal(s);
+    let state = state_refusal(s, ranges::registers_in_range(s));
     if state != 0 {
         return state;
     }

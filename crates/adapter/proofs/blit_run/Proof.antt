@@ -12,13 +12,16 @@ use borrow.Author.Needs.{needs}
 use Rattle.adapter.proofs.blit_run.Statement.{statement}
 use Rattle.adapter.proofs.blit_run.Tie as tie
 
+registers-in-range-requires : tie.Need-registers-in-range-requires
+registers-in-range-requires c κs = search needs
+
 lent-refusal-requires : tie.Need-lent-refusal-requires
 lent-refusal-requires c κs = search needs
 
 returns : tie.Need-returns
 returns c =
     let at-lent-refusal = c .before in
-    let start = at-lent-refusal .before .before .before .before in
+    let start = at-lent-refusal .before .before .before .before .before .before in
     let a = start .args in
     let here = adapterAt (a .s .now) (a .vram .now) (a .xr .now) in (
       refused here (run (a .n)) _ (at-lent-refusal .lent-refusal .ensures ∙ sym
@@ -30,7 +33,7 @@ run-requires : tie.Need-run-requires
 run-requires c κs =
     let at-if1 = c .before .before in
     let at-lent-refusal = at-if1 .before in
-    let start = at-lent-refusal .before .before .before .before in
+    let start = at-lent-refusal .before .before .before .before .before .before in
     let a = start .args in
     let fine = step-lent (stateAt (a .s .now)) (a .vram .now) (a .xr .now)
     (sym (at-lent-refusal .lent-refusal .ensures ∙ sym (step-refusal (stateAt (a .s .now)) (a .vram .now) (a .xr .now))) ∙ at-if1 .if1 .left) in
@@ -50,7 +53,7 @@ returns-2 c =
     let at-run = c .before .before in
     let at-if1 = at-run .before .before .before in
     let at-lent-refusal = at-if1 .before in
-    let start = at-lent-refusal .before .before .before .before in
+    let start = at-lent-refusal .before .before .before .before .before .before in
     let a = start .args in
     let here = adapterAt (a .s .now) (a .vram .now) (a .xr .now) in
     let told = at-run .run .ensures in (
@@ -62,4 +65,4 @@ returns-2 c =
 
 pub blit-run-spec : {M : Type 1} → statement M
 blit-run-spec =
-    tie.close (tie.spec lent-refusal-requires returns run-requires sub-count same-length returns-2)
+    tie.close (tie.spec registers-in-range-requires lent-refusal-requires returns run-requires sub-count same-length returns-2)

@@ -11,16 +11,19 @@ use borrow.Author.Needs.{needs}
 use Rattle.adapter.proofs.blit_step.Statement.{statement}
 use Rattle.adapter.proofs.blit_step.Tie as tie
 
-step-refusal-requires : tie.Need-step-refusal-requires
-step-refusal-requires c κs = search needs
+registers-in-range-requires : tie.Need-registers-in-range-requires
+registers-in-range-requires c κs = search needs
+
+lent-refusal-requires : tie.Need-lent-refusal-requires
+lent-refusal-requires c κs = search needs
 
 returns : tie.Need-returns
 returns c =
-    let at-step-refusal = c .before in
-    let start = at-step-refusal .before .before .before .before in
+    let at-lent-refusal = c .before in
+    let start = at-lent-refusal .before .before .before .before .before .before in
     let a = start .args in
     let here = adapterAt (a .s .now) (a .vram .now) (a .xr .now) in (
-      refused here step _ (at-step-refusal .step-refusal .ensures ∙ sym (step-refusal (stateAt (a .s .now)) (a .vram .now) (a .xr .now)))
+      refused here step _ (at-lent-refusal .lent-refusal .ensures ∙ sym (step-refusal (stateAt (a .s .now)) (a .vram .now) (a .xr .now)))
           (c .if1 .taken),
       λ _. refl,
     )
@@ -28,11 +31,11 @@ returns c =
 step-requires : tie.Need-step-requires
 step-requires c κs =
     let at-if1 = c .before .before in
-    let at-step-refusal = at-if1 .before in
-    let start = at-step-refusal .before .before .before .before in
+    let at-lent-refusal = at-if1 .before in
+    let start = at-lent-refusal .before .before .before .before .before .before in
     let a = start .args in
     let fine = step-lent (stateAt (a .s .now)) (a .vram .now) (a .xr .now)
-    (sym (at-step-refusal .step-refusal .ensures ∙ sym (step-refusal (stateAt (a .s .now)) (a .vram .now) (a .xr .now))) ∙ at-if1 .if1 .left) in
+    (sym (at-lent-refusal .lent-refusal .ensures ∙ sym (step-refusal (stateAt (a .s .now)) (a .vram .now) (a .xr .now))) ∙ at-if1 .if1 .left) in
     (search needs, (fine .vram, ready (stateAt (a .s .now)) (fine .state)))
 
 same-length : tie.Need-same-length
@@ -43,16 +46,16 @@ unfolding done given
 returns-2 c =
     let at-step = c .before .before in
     let at-if1 = at-step .before .before .before in
-    let at-step-refusal = at-if1 .before in
-    let start = at-step-refusal .before .before .before .before in
+    let at-lent-refusal = at-if1 .before in
+    let start = at-lent-refusal .before .before .before .before .before .before in
     let a = start .args in
     let here = adapterAt (a .s .now) (a .vram .now) (a .xr .now) in
     let told = at-step .step .ensures in (
-      performed here step _ _ (sym (at-step-refusal .step-refusal .ensures ∙ sym (step-refusal (stateAt (a .s .now)) (a .vram .now) (a .xr .now))) ∙
+      performed here step _ _ (sym (at-lent-refusal .lent-refusal .ensures ∙ sym (step-refusal (stateAt (a .s .now)) (a .vram .now) (a .xr .now))) ∙
           at-if1 .if1 .left) (told .1 (a .xr .now)) (told .0 (a .xr .now)),
       λ n. absurd (n refl),
     )
 
 pub blit-step-spec : {M : Type 1} → statement M
 blit-step-spec =
-    tie.close (tie.spec step-refusal-requires returns step-requires same-length returns-2)
+    tie.close (tie.spec registers-in-range-requires lent-refusal-requires returns step-requires same-length returns-2)

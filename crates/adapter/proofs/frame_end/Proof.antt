@@ -10,13 +10,16 @@ use borrow.Author.Needs.{needs}
 use Rattle.adapter.proofs.frame_end.Statement.{statement}
 use Rattle.adapter.proofs.frame_end.Tie as tie
 
+registers-in-range-requires : tie.Need-registers-in-range-requires
+registers-in-range-requires c κs = search needs
+
 state-refusal-requires : tie.Need-state-refusal-requires
 state-refusal-requires c κs = search needs
 
 returns : tie.Need-returns
 returns c =
     let at-state-refusal = c .before in
-    let start = at-state-refusal .before .before in
+    let start = at-state-refusal .before .before .before .before in
     let a = start .args in (
       λ v x. refused (adapterAt (a .s .now) v x) (call frameEnd) _
           (at-state-refusal .state-refusal .ensures ∙ sym (state-refusal (stateAt (a .s .now)) v x a-frame-end)) (c .if1 .taken),
@@ -31,7 +34,7 @@ unfolding done actOf given
 returns-2 c =
     let at-if1 = c .before .before in
     let at-state-refusal = at-if1 .before in
-    let start = at-state-refusal .before .before in
+    let start = at-state-refusal .before .before .before .before in
     let a = start .args in (
       λ v x. performed (adapterAt (a .s .now) v x) (call frameEnd) 0 _
           (sym (at-state-refusal .state-refusal .ensures ∙ sym (state-refusal (stateAt (a .s .now)) v x a-frame-end)) ∙ at-if1 .if1 .left) refl
@@ -40,4 +43,4 @@ returns-2 c =
     )
 
 pub frame-end-spec : {M : Type 1} → statement M
-frame-end-spec = tie.close (tie.spec state-refusal-requires returns frame-end-requires returns-2)
+frame-end-spec = tie.close (tie.spec registers-in-range-requires state-refusal-requires returns frame-end-requires returns-2)

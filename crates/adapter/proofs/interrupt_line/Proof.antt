@@ -13,13 +13,16 @@ use borrow.Author.Needs.{needs}
 use Rattle.adapter.proofs.interrupt_line.Statement.{statement}
 use Rattle.adapter.proofs.interrupt_line.Tie as tie
 
+registers-in-range-requires : tie.Need-registers-in-range-requires
+registers-in-range-requires c κs = search needs
+
 state-refusal-requires : tie.Need-state-refusal-requires
 state-refusal-requires c κs = search needs
 
 returns : tie.Need-returns
 returns c =
     let at-state-refusal = c .before in
-    let start = at-state-refusal .before in
+    let start = at-state-refusal .before .before in
     let a = start .args in
     λ v x. refused (adapterAt (a .s .now) v x) (call line) _
     (at-state-refusal .state-refusal .ensures ∙ sym (state-refusal (stateAt (a .s .now)) v x a-line)) (c .if1 .taken)
@@ -32,7 +35,7 @@ unfolding done actOf given perform changed stored
 returns-2 c =
     let at-if1 = c .before .before in
     let at-state-refusal = at-if1 .before in
-    let start = at-state-refusal .before in
+    let start = at-state-refusal .before .before in
     let a = start .args in
     let up = ap {B = ℕ} (λ (b : Bool). cond b 1 0) (c .line-up .ensures) in
     λ v x. performed (adapterAt (a .s .now) v x) (call line) _ _
@@ -40,4 +43,4 @@ returns-2 c =
 
 pub interrupt-line-spec : {M : Type 1} → statement M
 interrupt-line-spec =
-    tie.close (tie.spec state-refusal-requires returns line-up-requires returns-2)
+    tie.close (tie.spec registers-in-range-requires state-refusal-requires returns line-up-requires returns-2)

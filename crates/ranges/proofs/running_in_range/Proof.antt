@@ -1,7 +1,7 @@
 -- Each answer is the definition's, by the tests on its way.
 use Rattle.xosera.specs.State.{stateAt}
 use Rattle.xosera.specs.Refusals.{runningInRange}
-use Rattle.ranges.proofs.Tests.{tests}
+use Rattle.ranges.proofs.Tests.{tests, too-many-lines}
 use borrow.Author.Needs.{needs}
 use Rattle.ranges.proofs.running_in_range.Statement.{statement}
 use Rattle.ranges.proofs.running_in_range.Tie as tie
@@ -9,12 +9,9 @@ use Rattle.ranges.proofs.running_in_range.Tie as tie
 element-copy-out-if1 : tie.Need-element-copy-out-if1
 element-copy-out-if1 c = search needs
 
-element-copy-out-if1-2 : tie.Need-element-copy-out-if1-2
-element-copy-out-if1-2 c = search needs
-
 returns : tie.Need-returns
-unfolding stateAt runningInRange
-returns c = search tests
+unfolding stateAt
+returns c = too-many-lines (stateAt (c .before .before .args .s .now) .engine) (c .if1 .taken)
 
 element-copy-out-if2 : tie.Need-element-copy-out-if2
 element-copy-out-if2 c = search needs
@@ -28,6 +25,9 @@ returns-2 c = search tests
 
 element-copy-out-if3 : tie.Need-element-copy-out-if3
 element-copy-out-if3 c = search needs
+
+element-copy-out-if3-2 : tie.Need-element-copy-out-if3-2
+element-copy-out-if3-2 c = search needs
 
 returns-3 : tie.Need-returns-3
 unfolding stateAt runningInRange
@@ -52,12 +52,12 @@ running-in-range-spec =
     tie.close
     (tie.spec
     element-copy-out-if1
-    element-copy-out-if1-2
     returns
     element-copy-out-if2
     element-copy-out-if2-2
     returns-2
     element-copy-out-if3
+    element-copy-out-if3-2
     returns-3
     element-copy-out-if4
     returns-4

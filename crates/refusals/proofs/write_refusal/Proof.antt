@@ -22,13 +22,16 @@ returns c =
     let lent = lengths-first (r .vram) (r .xr) s (at-lengths-refusal .lengths-refusal .ensures) (c .if1 .taken) in
     λ v x p q. write-first s v x p q lent (r .reg) (r .odd) (r .byte) (c .if1 .taken)
 
+registers-in-range-requires : tie.Need-registers-in-range-requires
+registers-in-range-requires c κs = search needs
+
 state-refusal-requires : tie.Need-state-refusal-requires
 state-refusal-requires c κs = search needs
 
 returns-2 : tie.Need-returns-2
 returns-2 c =
     let at-state-refusal = c .before in
-    let at-if1 = at-state-refusal .before in
+    let at-if1 = at-state-refusal .before .before in
     let at-lengths-refusal = at-if1 .before in
     let start = at-lengths-refusal .before in
     let r = start .args in
@@ -42,7 +45,7 @@ unfolding first badRegister
 returns-3 c =
     let at-if2 = c .before in
     let at-state-refusal = at-if2 .before in
-    let at-if1 = at-state-refusal .before in
+    let at-if1 = at-state-refusal .before .before in
     let at-lengths-refusal = at-if1 .before in
     let start = at-lengths-refusal .before in
     let r = start .args in
@@ -57,7 +60,7 @@ returns-4 c =
     let at-if3 = c .before in
     let at-if2 = at-if3 .before in
     let at-state-refusal = at-if2 .before in
-    let at-if1 = at-state-refusal .before in
+    let at-if1 = at-state-refusal .before .before in
     let at-lengths-refusal = at-if1 .before in
     let start = at-lengths-refusal .before in
     let r = start .args in
@@ -72,7 +75,7 @@ odd-refusal-requires c κs =
     let at-if3 = c .before in
     let at-if2 = at-if3 .before in
     let at-state-refusal = at-if2 .before in
-    let at-if1 = at-state-refusal .before in
+    let at-if1 = at-state-refusal .before .before in
     let at-lengths-refusal = at-if1 .before in
     let start = at-lengths-refusal .before in
     let r = start .args in
@@ -88,7 +91,7 @@ returns-5 c =
     let at-if3 = at-if4 .before in
     let at-if2 = at-if3 .before in
     let at-state-refusal = at-if2 .before in
-    let at-if1 = at-state-refusal .before in
+    let at-if1 = at-state-refusal .before .before in
     let at-lengths-refusal = at-if1 .before in
     let start = at-lengths-refusal .before in
     let r = start .args in
@@ -104,6 +107,7 @@ write-refusal-spec =
     (tie.spec
     lengths-refusal-requires
     returns
+    registers-in-range-requires
     state-refusal-requires
     returns-2
     returns-3
