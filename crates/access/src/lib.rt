@@ -92,17 +92,12 @@ pub fn read(s: &mut [u16], vram: &[u16], xr: &[u16], reg: u8, odd: bool)
     }
 }
 
-// A frame end sets status bit 4. Only a new status is stored: the next call's test of the ranges, which reads four words at
-// once, would have to wait for the store.
+// A frame end sets status bit 4.
 pub fn frame_end(s: &mut [u16])
     requires { ⌜ length (now s) ≡ 75 ⌝ }
     ensures { λ _. ⌜ ((v x : List ℕ) → Performs TimerTick.frameEnd (now (s .entry)) v x (now (s .exit)) v x) ⌝ }
 {
-    let raised = s[STATUS] | 16;
-    if raised == s[STATUS] {
-        return;
-    }
-    s[STATUS] = raised;
+    s[STATUS] = s[STATUS] | 16;
 }
 
 // The interrupt line is up when some bit is set in both mask and status.

@@ -14,9 +14,7 @@ ghost use Rattle.xosera.specs.HostBytes.{writeTimer, readByte};
 ghost use Rattle.xosera.specs.TimerTick as TimerTick;
 ghost use Rattle.xosera.specs.Calls.{Performs};
 
-// A tick: the timer goes up by 1, and a countdown that reaches 0 sets status bit 5 and starts again. Here and below only a
-// new status or saved byte is stored: the next call's test of the ranges, which reads them with two other words at once,
-// would have to wait for the store.
+// A tick: the timer goes up by 1, and a countdown that reaches 0 sets status bit 5 and starts again.
 pub fn tick(s: &mut [u16])
     requires { ⌜ length (now s) ≡ 75 ⌝ }
     ensures { λ _. ⌜ ((v x : List ℕ) → Performs TimerTick.tick (now (s .entry)) v x (now (s .exit)) v x) ⌝ }
@@ -27,11 +25,7 @@ pub fn tick(s: &mut [u16])
     s[TIMER] = std::num::wrapping_add_u16(s[TIMER], 1);
     if countdown == 1 {
         s[COUNTDOWN] = interval;
-        let raised = status | 32;
-        if raised == status {
-            return;
-        }
-        s[STATUS] = raised;
+        s[STATUS] = status | 32;
         return;
     }
     if countdown == 0 {
@@ -54,9 +48,5 @@ pub fn save(s: &mut [u16])
     requires { ⌜ length (now s) ≡ 75 ⌝ }
     ensures { λ _. ⌜ ((v x : List ℕ) → Performs (λ (side : Side). readByte side 2 false) (now (s .entry)) v x (now (s .exit)) v x) ⌝ }
 {
-    let low = s[TIMER] % 256;
-    if low == s[SAVED] {
-        return;
-    }
-    s[SAVED] = low;
+    s[SAVED] = s[TIMER] % 256;
 }

@@ -1,5 +1,5 @@
--- One store, or none where the byte is there already.
-use mathlib.Core.Path.{refl, _∙_}
+-- One store.
+use mathlib.Core.Path.{refl}
 use mathlib.Core.List.{[], _∷_}
 use Prim.Native.Nat.{_%_}
 use Rattle.xosera.specs.State.{wordAt, stateAt}
@@ -12,17 +12,8 @@ use borrow.Author.Needs.{needs}
 use Rattle.timer.proofs.save.Statement.{statement}
 use Rattle.timer.proofs.save.Tie as tie
 
-slice-read-low : tie.Need-slice-read-low
-slice-read-low c = search needs
-
-slice-read-if1 : tie.Need-slice-read-if1
-slice-read-if1 c = search needs
-
-returns : tie.Need-returns
-unfolding stateAt perform changed stored readByte timerSaved
-returns c =
-    let start = c .before .before .before in
-    λ v x. stored-adapter (start .args .s .now) (start .pre) [] refl v x ∙ rw (c .if1 .taken)
+slice-read-s : tie.Need-slice-read-s
+slice-read-s c = search needs
 
 slice-write-s : tie.Need-slice-write-s
 slice-write-s c = search needs
@@ -30,13 +21,12 @@ slice-write-s c = search needs
 same-length : tie.Need-same-length
 same-length c = search needs
 
-returns-2 : tie.Need-returns-2
+returns : tie.Need-returns
 unfolding stateAt perform changed stored readByte timerSaved
-returns-2 c =
-    let start = c .before .before .before in
+returns c =
+    let start = c .before in
     let ws = start .args .s .now in
     stored-adapter ws (start .pre) ((28 takes wordAt ws 25 % 256) ∷ []) refl
 
 pub save-spec : {M : Type 1} → statement M
-save-spec =
-    tie.close (tie.spec slice-read-low slice-read-if1 returns slice-write-s same-length returns-2)
+save-spec = tie.close (tie.spec slice-read-s slice-write-s same-length returns)

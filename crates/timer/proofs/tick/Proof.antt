@@ -1,4 +1,4 @@
--- A countdown at its end, the status new or as it was, one that is stopped, and one that goes on.
+-- A countdown at its end, one that is stopped, and one that goes on.
 use mathlib.Core.Path.{refl, _∙_}
 use Prim.Native.Nat.{_-_}
 use lib.Bits.{bitOr}
@@ -39,22 +39,20 @@ slice-write-s c = search needs
 slice-write-s-2 : tie.Need-slice-write-s-2
 slice-write-s-2 c = simp length-set (omega arith)
 
+slice-write-s-3 : tie.Need-slice-write-s-3
+slice-write-s-3 c = simp length-set (omega arith)
+
 same-length : tie.Need-same-length
 same-length c = search needs
 
 returns : tie.Need-returns
 unfolding stateAt perform changed stored TimerTick.tick ticked counted expires wrap
 returns c =
-    let at-if1 = c .before in
-    let at-wrapping-add-u16 = at-if1 .before in
+    let at-wrapping-add-u16 = c .before in
     let start = at-wrapping-add-u16 .before .before .before .before .before .before in
     let ws = start .args .s .now in
-    let stores = (25 takes at-wrapping-add-u16 .wrapping-add-u16 .result) ∷ (26 takes wordAt ws 27) ∷ [] in
-    λ v x. stored-adapter ws (start .pre) stores refl v x ∙ rw
-    (at-wrapping-add-u16 .wrapping-add-u16 .ensures, eq-eqb (wordAt ws 26) 1 (at-if1 .if1 .taken), c .if2 .taken)
-
-slice-write-s-3 : tie.Need-slice-write-s-3
-slice-write-s-3 c = simp length-set (omega arith)
+    let stores = (25 takes at-wrapping-add-u16 .wrapping-add-u16 .result) ∷ (26 takes wordAt ws 27) ∷ (31 takes bitOr (wordAt ws 31) 32) ∷ [] in
+    λ v x. stored-adapter ws (start .pre) stores refl v x ∙ rw (at-wrapping-add-u16 .wrapping-add-u16 .ensures, eq-eqb (wordAt ws 26) 1 (c .if1 .taken))
 
 same-length-2 : tie.Need-same-length-2
 same-length-2 c = search needs
@@ -66,21 +64,8 @@ returns-2 c =
     let at-wrapping-add-u16 = at-if1 .before in
     let start = at-wrapping-add-u16 .before .before .before .before .before .before in
     let ws = start .args .s .now in
-    let stores = (25 takes at-wrapping-add-u16 .wrapping-add-u16 .result) ∷ (26 takes wordAt ws 27) ∷ (31 takes bitOr (wordAt ws 31) 32) ∷ [] in
-    λ v x. stored-adapter ws (start .pre) stores refl v x ∙ rw (at-wrapping-add-u16 .wrapping-add-u16 .ensures, eq-eqb (wordAt ws 26) 1 (at-if1 .if1 .taken))
-
-same-length-3 : tie.Need-same-length-3
-same-length-3 c = search needs
-
-returns-3 : tie.Need-returns-3
-unfolding stateAt perform changed stored TimerTick.tick ticked counted expires wrap
-returns-3 c =
-    let at-if1 = c .before in
-    let at-wrapping-add-u16 = at-if1 .before in
-    let start = at-wrapping-add-u16 .before .before .before .before .before .before in
-    let ws = start .args .s .now in
     let stores = (25 takes at-wrapping-add-u16 .wrapping-add-u16 .result) ∷ [] in
-    λ v x. stored-adapter ws (start .pre) stores refl v x ∙ rw (at-wrapping-add-u16 .wrapping-add-u16 .ensures, c .if3 .taken)
+    λ v x. stored-adapter ws (start .pre) stores refl v x ∙ rw (at-wrapping-add-u16 .wrapping-add-u16 .ensures, c .if2 .taken)
 
 sub-s : tie.Need-sub-s
 sub-s c = search needs
@@ -88,12 +73,12 @@ sub-s c = search needs
 slice-write-s-4 : tie.Need-slice-write-s-4
 slice-write-s-4 c = search needs
 
-same-length-4 : tie.Need-same-length-4
-same-length-4 c = search needs
+same-length-3 : tie.Need-same-length-3
+same-length-3 c = search needs
 
-returns-4 : tie.Need-returns-4
+returns-3 : tie.Need-returns-3
 unfolding stateAt perform changed stored TimerTick.tick ticked counted expires wrap
-returns-4 c =
+returns-3 c =
     let at-if1 = c .before in
     let at-wrapping-add-u16 = at-if1 .before in
     let start = at-wrapping-add-u16 .before .before .before .before .before .before in
@@ -112,14 +97,12 @@ tick-spec =
     wrapping-add-u16-requires
     slice-write-s
     slice-write-s-2
+    slice-write-s-3
     same-length
     returns
-    slice-write-s-3
     same-length-2
     returns-2
-    same-length-3
-    returns-3
     sub-s
     slice-write-s-4
-    same-length-4
-    returns-4)
+    same-length-3
+    returns-3)
