@@ -278,6 +278,46 @@ impl Work for FrameEnds {
     }
 }
 
+/// Frame ends, each cleared by an odd write to `XM_INT_CTRL`.
+struct FrameEndsCleared;
+
+impl Work for FrameEndsCleared {
+    fn done_by<S>(&self, m: &mut Side<S>) -> u64 {
+        let (v, vn, x, xn) = (
+            m.vram.as_mut_ptr(),
+            m.vram.len(),
+            m.xr.as_mut_ptr(),
+            m.xr.len(),
+        );
+        let mut refused = 0;
+        for _ in 0..CALLS / 2 {
+            let ended = unsafe { (m.calls.frame_end)(&mut m.state) };
+            let cleared = unsafe {
+                (m.calls.write_byte)(&mut m.state, v, vn, x, xn, xosera::XM_INT_CTRL, true, 0x10)
+            };
+            refused += u64::from(ended.refusal) + u64::from(cleared.refusal);
+        }
+        refused
+    }
+}
+
+/// Timer ticks, each followed by an even read of `XM_TIMER`, which saves the timer's low byte.
+struct TicksRead;
+
+impl Work for TicksRead {
+    fn done_by<S>(&self, m: &mut Side<S>) -> u64 {
+        let (v, vn, x, xn) = (m.vram.as_ptr(), m.vram.len(), m.xr.as_ptr(), m.xr.len());
+        let mut sum = 0;
+        for _ in 0..CALLS / 2 {
+            sum += u64::from(unsafe { (m.calls.timer_tick)(&mut m.state).refusal });
+            let a =
+                unsafe { (m.calls.read_byte)(&mut m.state, v, vn, x, xn, xosera::XM_TIMER, false) };
+            sum = mixed(sum, a.refusal, a.byte);
+        }
+        sum
+    }
+}
+
 struct Lines;
 
 impl Work for Lines {
@@ -390,7 +430,10 @@ fn main() {
         compare(&reads, "Mcalls/s", CALLS, &x, Reads(reg));
     }
     compare("timer ticks", "Mcalls/s", CALLS, &x, Ticks);
+    compare("ticks and even reads", "Mcalls/s", CALLS, &x, TicksRead);
     compare("frame ends", "Mcalls/s", CALLS, &x, FrameEnds);
+    let cleared = "frame ends and their clears";
+    compare(cleared, "Mcalls/s", CALLS, &x, FrameEndsCleared);
     let mut up = x;
     up.frame_end().expect("a frame end that is done");
     compare("interrupt line questions", "Mcalls/s", CALLS, &up, Lines);
