@@ -38,23 +38,26 @@ module _ (s : State) (v x : List ℕ) where
   unfolding badVram badXr badState isXrLength
   lent p q r = record { vram = not-false _ p; xr = eqb-true (length x) 6656 (not-false _ q); state = not-false _ r }
 
+  -- Of an event whose first three tests are those of the memories and the state.
+  lent-by : (e : Event) → applied (tests (adapter s v x) e) 0 ≡ badVram (adapter s v x) → applied (tests (adapter s v x) e) 1 ≡ badXr (adapter s v x)
+      → applied (tests (adapter s v x) e) 2 ≡ badState (adapter s v x) → refusal (adapter s v x) e ≡ 0 → Lent s v x
+  lent-by e p q r h =
+      lent (sym p ∙ accepted-none (adapter s v x) e 0 h) (sym q ∙ accepted-none (adapter s v x) e 1 h) (sym r ∙ accepted-none (adapter s v x) e 2 h)
+
   pub write-lent : (r : ℕ) (odd : Bool) (b : ℕ) → refusal (adapter s v x) (call (write r odd b)) ≡ 0 → Lent s v x × (r < 16)
   unfolding tests badRegister
   write-lent r odd b h =
-      let none : (i : ℕ) → applied (tests (adapter s v x) (call (write r odd b))) i ≡ false =
-      λ i. accepted-none (adapter s v x) (call (write r odd b)) i h in
-      (lent (none 0) (none 1) (none 2), ltb-true r 16 (not-false (ltb r 16) (none 3)))
+      let event = call (write r odd b) in
+      (lent-by event refl refl refl h, ltb-true r 16 (not-false (ltb r 16) (accepted-none (adapter s v x) event 3 h)))
 
   pub read-lent : (r : ℕ) (odd : Bool) → refusal (adapter s v x) (call (read r odd)) ≡ 0 → Lent s v x
   unfolding tests
-  read-lent r odd h =
-      let none : (i : ℕ) → applied (tests (adapter s v x) (call (read r odd))) i ≡ false =
-      λ i. accepted-none (adapter s v x) (call (read r odd)) i h in
-      lent (none 0) (none 1) (none 2)
+  read-lent r odd = lent-by (call (read r odd)) refl refl refl
 
   pub step-lent : refusal (adapter s v x) step ≡ 0 → Lent s v x
   unfolding tests
-  step-lent h =
-      let none : (i : ℕ) → applied (tests (adapter s v x) step) i ≡ false =
-      λ i. accepted-none (adapter s v x) step i h in
-      lent (none 0) (none 1) (none 2)
+  step-lent = lent-by step refl refl refl
+
+  pub run-lent : (n : ℕ) → refusal (adapter s v x) (run n) ≡ 0 → Lent s v x
+  unfolding tests
+  run-lent n = lent-by (run n) refl refl refl

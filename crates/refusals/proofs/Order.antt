@@ -2,8 +2,9 @@
 use mathlib.Core.Path.{_≡_, refl, sym, ap₂, _∙_}
 use mathlib.Core.Bool.{Bool, true, false, not}
 use mathlib.Core.List.{List, [], _∷_}
-use Prim.Native.Nat.{ℕ}
+use Prim.Native.Nat.{ℕ, _≤_, _<_}
 use native.Mathlib.Omega.{arith}
+use borrow.Author.Tests.{le-ltb, lt-ltb}
 use lib.ListN.{length}
 use Rattle.xosera.specs.State.{State}
 use Rattle.xosera.specs.Memories.{isVramLength, isXrLength}
@@ -95,17 +96,33 @@ module _ (s : State) (v x : List ℕ) where
     unfolding refusal tests badVram badXr badState
     read-first r odd d = first-of (ofRead r) d
 
-    pub read-passed : (r : ℕ) (odd : Bool) → lent ≡ 0 → refusal (adapter s v x) (call (read r odd)) ≡ first (ofRead r)
-    unfolding refusal tests badVram badXr badState
-    read-passed r odd z = passed-of (ofRead r) z
-
     pub write-first : (r : ℕ) (odd : Bool) (b : ℕ) → (lent ≡ 0 → ⊥) → lent ≡ refusal (adapter s v x) (call (write r odd b))
     unfolding refusal tests badVram badXr badState
     write-first r odd b d = first-of (ofWrite r odd b) d
 
-    pub write-passed : (r : ℕ) (odd : Bool) (b : ℕ) → lent ≡ 0 → refusal (adapter s v x) (call (write r odd b)) ≡ first (ofWrite r odd b)
-    unfolding refusal tests badVram badXr badState
-    write-passed r odd b z = passed-of (ofWrite r odd b) z
+    -- None of the three applies: then the register's number, and in a write the byte.
+    module _ (z : lent ≡ 0) (r : ℕ) where
+      pub read-over : (odd : Bool) → 16 ≤ r → 4 ≡ refusal (adapter s v x) (call (read r odd))
+      unfolding refusal tests badVram badXr badState badRegister first
+      read-over odd m = sym (passed-of (ofRead r) z ∙ rw (le-ltb r 16 m))
+
+      pub read-done : (odd : Bool) → r < 16 → 0 ≡ refusal (adapter s v x) (call (read r odd))
+      unfolding refusal tests badVram badXr badState badRegister first
+      read-done odd m = sym (passed-of (ofRead r) z ∙ rw (lt-ltb r 16 m))
+
+      pub write-over : (odd : Bool) (b : ℕ) → 16 ≤ r → 4 ≡ refusal (adapter s v x) (call (write r odd b))
+      unfolding refusal tests badVram badXr badState badRegister first
+      write-over odd b m = sym (passed-of (ofWrite r odd b) z ∙ rw (le-ltb r 16 m))
+
+      pub write-even : (odd : Bool) (b : ℕ) → r < 16 → odd ≡ false → 0 ≡ refusal (adapter s v x) (call (write r odd b))
+      unfolding refusal tests badVram badXr badState badRegister blitterFull reconfigures first
+      write-even odd b m e = sym (passed-of (ofWrite r odd b) z ∙ rw (lt-ltb r 16 m, e))
+
+      pub write-odd : (odd : Bool) (b : ℕ) → r < 16 → odd ≡ true
+          → first ((5 when blitterFull (adapter s v x) r true) ∷ (6 when reconfigures (adapter s v x) r true b) ∷ []) ≡
+          refusal (adapter s v x) (call (write r odd b))
+      unfolding refusal tests badVram badXr badState badRegister first
+      write-odd odd b m e = sym (passed-of (ofWrite r odd b) z ∙ rw (lt-ltb r 16 m, e))
 
 -- The state is in range where none of the three applies.
 pub lent-in-range : (n m : ℕ) (s : State) → lentRefusal n m s ≡ 0 → inRange s ≡ true

@@ -1,4 +1,6 @@
 -- By the tests and the arm that was taken.
+use mathlib.Core.Path.{_≡_}
+use mathlib.Core.Bool.{true}
 use borrow.Author.Tests.{not-true, not-false, ne-eqb}
 use Rattle.xosera.specs.Memories.{stored}
 use Rattle.xosera.specs.Adapter.{changed}
@@ -30,6 +32,13 @@ returns-2 c =
     let start = at-if1 .before .before .before .before in
     rw (not-true (start .args .odd) (at-if1 .if1 .taken), ne-eqb _ 2 (c .if2 .left))
 
+-- An odd read, from the call's start on.
+abbrev began : tie.Else1 → tie.Start
+began c = c .before .before .before .before
+
+is-odd : (c : tie.Else1) → began c .args .odd ≡ true
+is-odd c = not-false (began c .args .odd) (c .if1 .left)
+
 read-requires : tie.Need-read-requires
 read-requires c κs = search needs
 
@@ -47,9 +56,7 @@ unfolding readByte
 returns-3 c =
     let at-read = c .before .before in
     let at-match = at-read .before .before in
-    let at-if1 = at-match .before in
-    let start = at-if1 .before .before .before .before in
-    rw (not-false (start .args .odd) (at-if1 .if1 .left), at-match .match .keys1) (at-read .read .ensures (start .args .vram .now))
+    rw (is-odd (at-match .before), at-match .match .keys1) (at-read .read .ensures (began (at-match .before) .args .vram .now))
 
 same-length-3 : tie.Need-same-length-3
 same-length-3 c = search needs
@@ -59,9 +66,7 @@ unfolding readByte
 returns-4 c =
     let at-read2 = c .before .before in
     let at-match = at-read2 .before .before in
-    let at-if1 = at-match .before in
-    let start = at-if1 .before .before .before .before in
-    rw (not-false (start .args .odd) (at-if1 .if1 .left), at-match .match .keys2) (at-read2 .read2 .ensures (start .args .xr .now))
+    rw (is-odd (at-match .before), at-match .match .keys2) (at-read2 .read2 .ensures (began (at-match .before) .args .xr .now))
 
 same-length-4 : tie.Need-same-length-4
 same-length-4 c = search needs
@@ -71,17 +76,13 @@ unfolding readByte
 returns-5 c =
     let at-read3 = c .before .before in
     let at-match = at-read3 .before .before in
-    let at-if1 = at-match .before in
-    let start = at-if1 .before .before .before .before in
-    rw (not-false (start .args .odd) (at-if1 .if1 .left), at-match .match .keys3) (at-read3 .read3 .ensures (start .args .xr .now))
+    rw (is-odd (at-match .before), at-match .match .keys3) (at-read3 .read3 .ensures (began (at-match .before) .args .xr .now))
 
 returns-6 : tie.Need-returns-6
 unfolding readByte perform changed stored
 returns-6 c =
-    let at-if1 = c .before in
-    let start = at-if1 .before .before .before .before in
     let n = c .match .rest in
-    rw (not-false (start .args .odd) (at-if1 .if1 .left), ne-eqb _ 5 (n .0 .0 .1), ne-eqb _ 10 (n .0 .1), ne-eqb _ 11 (n .1))
+    rw (is-odd (c .before), ne-eqb _ 5 (n .0 .0 .1), ne-eqb _ 10 (n .0 .1), ne-eqb _ 11 (n .1))
 
 pub read-spec : {M : Type 1} → statement M
 read-spec =

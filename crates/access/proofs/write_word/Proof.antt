@@ -1,12 +1,13 @@
 -- By the arm that was taken; no other register takes a word.
 use mathlib.Core.Path.{_≡_, refl}
+use mathlib.Core.Bool.{true}
 use Prim.Native.Nat.{ℕ, _%_}
-use Rattle.xosera.proofs.WordLaws.{_takes_, stored-adapter, _and_, below}
+use Rattle.xosera.proofs.WordLaws.{Stored, _takes_, allPlaced, setAll, putAll, stored-adapter, _and_, below}
 use Rattle.access.proofs.Past.{past-writes}
 use mathlib.Core.List.{[], _∷_}
-use Rattle.xosera.specs.State.{stateAt}
+use Rattle.xosera.specs.State.{stateBy, wordAt, stateAt}
 use Rattle.xosera.specs.Memories.{stored}
-use Rattle.xosera.specs.Adapter.{changed}
+use Rattle.xosera.specs.Adapter.{adapter, adapterAt, changed}
 use Rattle.xosera.specs.HostBytes.{writeWord}
 use Rattle.xosera.specs.Calls.{perform}
 use borrow.Author.Needs.{needs}
@@ -54,12 +55,22 @@ write-requires-3 c κs = search needs
 same-length : tie.Need-same-length
 same-length c = search needs
 
+-- The call's start, and one word stored since.
+abbrev began : tie.After-slice-known3 → tie.Start
+began c = c .before .before .before
+
+one-store : (c : tie.After-slice-known3) (p : Stored) → allPlaced (p ∷ []) ≡ true →
+    let a = began c .args in
+    adapterAt (setAll (a .s .now) (p ∷ [])) (a .vram .now) (a .xr .now) ≡ adapter (stateBy (putAll (p ∷ []) (wordAt (a .s .now)))) (a .vram .now) (a .xr .now)
+one-store c p placed =
+    let a = began c .args in
+    stored-adapter (a .s .now) (began c .pre .0) (p ∷ []) placed (a .vram .now) (a .xr .now)
+
 returns : tie.Need-returns
 unfolding writeWord stateAt perform changed stored
 returns c =
-    let start = c .before .before .before .before in
-    let w = start .args .w in
-    rw (c .match .keys1) (stored-adapter (start .args .s .now) (start .pre .0) ((24 takes w % 16) ∷ []) refl (start .args .vram .now) (start .args .xr .now))
+    let w = began (c .before) .args .w in
+    rw (c .match .keys1) (one-store (c .before) (24 takes w % 16) refl)
 
 same-length-2 : tie.Need-same-length-2
 same-length-2 c = search needs
@@ -69,8 +80,8 @@ unfolding writeWord
 returns-2 c =
     let at-write-int-ctrl = c .before .before in
     let at-match = at-write-int-ctrl .before .before in
-    let start = at-match .before .before .before .before in
-    rw (at-match .match .keys2) (at-write-int-ctrl .write-int-ctrl .ensures (start .args .vram .now) (start .args .xr .now))
+    let a = began (at-match .before) .args in
+    rw (at-match .match .keys2) (at-write-int-ctrl .write-int-ctrl .ensures (a .vram .now) (a .xr .now))
 
 same-length-3 : tie.Need-same-length-3
 same-length-3 c = search needs
@@ -80,8 +91,8 @@ unfolding writeWord
 returns-3 c =
     let at-set-countdown = c .before .before in
     let at-match = at-set-countdown .before .before in
-    let start = at-match .before .before .before .before in
-    rw (at-match .match .keys3) (at-set-countdown .set-countdown .ensures (start .args .vram .now) (start .args .xr .now))
+    let a = began (at-match .before) .args in
+    rw (at-match .match .keys3) (at-set-countdown .set-countdown .ensures (a .vram .now) (a .xr .now))
 
 same-length-4 : tie.Need-same-length-4
 same-length-4 c = search needs
@@ -94,8 +105,8 @@ unfolding writeWord
 returns-4 c =
     let at-load = c .before .before in
     let at-match = at-load .before .before .before in
-    let start = at-match .before .before .before .before in
-    rw (at-match .match .keys4) (at-load .load .ensures (start .args .vram .now))
+    let a = began (at-match .before) .args in
+    rw (at-match .match .keys4) (at-load .load .ensures (a .vram .now))
 
 same-length-6 : tie.Need-same-length-6
 same-length-6 c = search needs
@@ -103,9 +114,8 @@ same-length-6 c = search needs
 returns-5 : tie.Need-returns-5
 unfolding writeWord stateAt perform changed stored
 returns-5 c =
-    let start = c .before .before .before .before in
-    let w = start .args .w in
-    rw (c .match .keys5) (stored-adapter (start .args .s .now) (start .pre .0) ((17 takes w) ∷ []) refl (start .args .vram .now) (start .args .xr .now))
+    let w = began (c .before) .args .w in
+    rw (c .match .keys5) (one-store (c .before) (17 takes w) refl)
 
 same-length-7 : tie.Need-same-length-7
 same-length-7 c = search needs
@@ -118,8 +128,8 @@ unfolding writeWord
 returns-6 c =
     let at-write = c .before .before .before .before in
     let at-match = at-write .before .before .before in
-    let start = at-match .before .before .before .before in
-    rw (at-match .match .keys6) (at-write .write .ensures (start .args .vram .now))
+    let a = began (at-match .before) .args in
+    rw (at-match .match .keys6) (at-write .write .ensures (a .vram .now))
 
 same-length-9 : tie.Need-same-length-9
 same-length-9 c = search needs
@@ -127,9 +137,8 @@ same-length-9 c = search needs
 returns-7 : tie.Need-returns-7
 unfolding writeWord stateAt perform changed stored
 returns-7 c =
-    let start = c .before .before .before .before in
-    let w = start .args .w in
-    rw (c .match .keys7) (stored-adapter (start .args .s .now) (start .pre .0) ((19 takes w) ∷ []) refl (start .args .vram .now) (start .args .xr .now))
+    let w = began (c .before) .args .w in
+    rw (c .match .keys7) (one-store (c .before) (19 takes w) refl)
 
 same-length-10 : tie.Need-same-length-10
 same-length-10 c = search needs
@@ -142,8 +151,8 @@ unfolding writeWord
 returns-8 c =
     let at-load2 = c .before .before in
     let at-match = at-load2 .before .before .before in
-    let start = at-match .before .before .before .before in
-    rw (at-match .match .keys8) (at-load2 .load2 .ensures (start .args .xr .now))
+    let a = began (at-match .before) .args in
+    rw (at-match .match .keys8) (at-load2 .load2 .ensures (a .xr .now))
 
 same-length-12 : tie.Need-same-length-12
 same-length-12 c = search needs
@@ -151,9 +160,8 @@ same-length-12 c = search needs
 returns-9 : tie.Need-returns-9
 unfolding writeWord stateAt perform changed stored
 returns-9 c =
-    let start = c .before .before .before .before in
-    let w = start .args .w in
-    rw (c .match .keys9) (stored-adapter (start .args .s .now) (start .pre .0) ((21 takes w) ∷ []) refl (start .args .vram .now) (start .args .xr .now))
+    let w = began (c .before) .args .w in
+    rw (c .match .keys9) (one-store (c .before) (21 takes w) refl)
 
 same-length-13 : tie.Need-same-length-13
 same-length-13 c = search needs
@@ -161,9 +169,8 @@ same-length-13 c = search needs
 returns-10 : tie.Need-returns-10
 unfolding writeWord stateAt perform changed stored
 returns-10 c =
-    let start = c .before .before .before .before in
-    let w = start .args .w in
-    rw (c .match .keys10) (stored-adapter (start .args .s .now) (start .pre .0) ((22 takes w) ∷ []) refl (start .args .vram .now) (start .args .xr .now))
+    let w = began (c .before) .args .w in
+    rw (c .match .keys10) (one-store (c .before) (22 takes w) refl)
 
 same-length-14 : tie.Need-same-length-14
 same-length-14 c = search needs
@@ -176,8 +183,8 @@ unfolding writeWord
 returns-11 c =
     let at-write2 = c .before .before .before .before in
     let at-match = at-write2 .before .before .before in
-    let start = at-match .before .before .before .before in
-    rw (at-match .match .keys11) (at-write2 .write2 .ensures (start .args .xr .now))
+    let a = began (at-match .before) .args in
+    rw (at-match .match .keys11) (at-write2 .write2 .ensures (a .xr .now))
 
 same-length-16 : tie.Need-same-length-16
 same-length-16 c = search needs
@@ -190,8 +197,8 @@ unfolding writeWord
 returns-12 c =
     let at-write3 = c .before .before .before .before in
     let at-match = at-write3 .before .before .before in
-    let start = at-match .before .before .before .before in
-    rw (at-match .match .keys12) (at-write3 .write3 .ensures (start .args .xr .now))
+    let a = began (at-match .before) .args in
+    rw (at-match .match .keys12) (at-write3 .write3 .ensures (a .xr .now))
 
 returns-13 : tie.Need-returns-13
 unfolding perform changed stored

@@ -1,12 +1,13 @@
 -- Refused, or as many words as are left.
-use mathlib.Core.Path.{refl, sym, _∙_}
+use mathlib.Core.Path.{_≡_, refl, sym, _∙_}
 use mathlib.Core.List.{[]}
 use Rattle.xosera.specs.State.{stateAt}
-use Rattle.xosera.specs.Adapter.{adapterAt}
+use Rattle.xosera.specs.Adapter.{Adapter, adapterAt}
 use Rattle.xosera.specs.Events.{run}
+use Rattle.xosera.specs.Refusals.{refusal}
 use Rattle.xosera.specs.Calls.{done, given}
-use Rattle.refusals.proofs.Accepted.{step-lent}
-use Rattle.refusals.proofs.Order.{step-refusal, run-refusal}
+use Rattle.refusals.proofs.Accepted.{run-lent}
+use Rattle.refusals.proofs.Order.{run-refusal}
 use Rattle.adapter.proofs.Answers.{ready, refused, performed}
 use borrow.Author.Needs.{needs}
 use Rattle.adapter.proofs.blit_run.Statement.{statement}
@@ -18,25 +19,29 @@ registers-in-range-requires c κs = search needs
 lent-refusal-requires : tie.Need-lent-refusal-requires
 lent-refusal-requires c κs = search needs
 
+-- The adapter at the call, and whether it is refused.
+abbrev began : tie.After-lent-refusal → tie.Start
+began c = c .before .before .before .before .before .before
+
+abbrev here : tie.After-lent-refusal → Adapter
+here c = let a = began c .args in adapterAt (a .s .now) (a .vram .now) (a .xr .now)
+
+tested : (c : tie.After-lent-refusal) → c .lent-refusal .result ≡ refusal (here c) (run (began c .args .n))
+tested c =
+    let a = began c .args in
+    c .lent-refusal .ensures ∙ sym (run-refusal (stateAt (a .s .now)) (a .vram .now) (a .xr .now) (a .n))
+
+accepted : (c : tie.Else1) → refusal (here (c .before)) (run (began (c .before) .args .n)) ≡ 0
+accepted c = sym (tested (c .before)) ∙ c .if1 .left
+
 returns : tie.Need-returns
-returns c =
-    let at-lent-refusal = c .before in
-    let start = at-lent-refusal .before .before .before .before .before .before in
-    let a = start .args in
-    let here = adapterAt (a .s .now) (a .vram .now) (a .xr .now) in (
-      refused here (run (a .n)) _ (at-lent-refusal .lent-refusal .ensures ∙ sym
-          (run-refusal (stateAt (a .s .now)) (a .vram .now) (a .xr .now) (a .n))) (c .if1 .taken),
-      λ _. refl,
-    )
+returns c = (refused (here (c .before)) (run (began (c .before) .args .n)) _ (tested (c .before)) (c .if1 .taken), λ _. refl)
 
 run-requires : tie.Need-run-requires
 run-requires c κs =
     let at-if1 = c .before .before in
-    let at-lent-refusal = at-if1 .before in
-    let start = at-lent-refusal .before .before .before .before .before .before in
-    let a = start .args in
-    let fine = step-lent (stateAt (a .s .now)) (a .vram .now) (a .xr .now)
-    (sym (at-lent-refusal .lent-refusal .ensures ∙ sym (step-refusal (stateAt (a .s .now)) (a .vram .now) (a .xr .now))) ∙ at-if1 .if1 .left) in
+    let a = began (at-if1 .before) .args in
+    let fine = run-lent (stateAt (a .s .now)) (a .vram .now) (a .xr .now) (a .n) (accepted at-if1) in
     (search needs, (fine .vram, ready (stateAt (a .s .now)) (fine .state)))
 
 sub-count : tie.Need-sub-count
@@ -52,15 +57,10 @@ unfolding done given
 returns-2 c =
     let at-run = c .before .before in
     let at-if1 = at-run .before .before .before in
-    let at-lent-refusal = at-if1 .before in
-    let start = at-lent-refusal .before .before .before .before .before .before in
-    let a = start .args in
-    let here = adapterAt (a .s .now) (a .vram .now) (a .xr .now) in
+    let a = began (at-if1 .before) .args in
     let told = at-run .run .ensures in (
-      performed here (run (a .n)) _ _ (sym (at-lent-refusal .lent-refusal .ensures ∙ sym
-          (run-refusal (stateAt (a .s .now)) (a .vram .now) (a .xr .now) (a .n))) ∙ at-if1 .if1 .left) (told .1 (a .xr .now) .1) (told .0 (a .xr .now)),
-      λ
-          n. absurd (n refl),
+      performed (here (at-if1 .before)) (run (a .n)) _ _ (accepted at-if1) (told .1 (a .xr .now) .1) (told .0 (a .xr .now)),
+      λ n. absurd (n refl),
     )
 
 pub blit-run-spec : {M : Type 1} → statement M

@@ -1,8 +1,9 @@
 -- Refused, or one word, or none on an idle engine.
-use mathlib.Core.Path.{refl, sym, _∙_}
+use mathlib.Core.Path.{_≡_, refl, sym, _∙_}
 use Rattle.xosera.specs.State.{stateAt}
-use Rattle.xosera.specs.Adapter.{adapterAt}
+use Rattle.xosera.specs.Adapter.{Adapter, adapterAt}
 use Rattle.xosera.specs.Events.{step}
+use Rattle.xosera.specs.Refusals.{refusal}
 use Rattle.xosera.specs.Calls.{done, given}
 use Rattle.refusals.proofs.Accepted.{step-lent}
 use Rattle.refusals.proofs.Order.{step-refusal}
@@ -17,25 +18,27 @@ registers-in-range-requires c κs = search needs
 lent-refusal-requires : tie.Need-lent-refusal-requires
 lent-refusal-requires c κs = search needs
 
+-- The adapter at the call, and whether it is refused.
+abbrev began : tie.After-lent-refusal → tie.Start
+began c = c .before .before .before .before .before .before
+
+abbrev here : tie.After-lent-refusal → Adapter
+here c = let a = began c .args in adapterAt (a .s .now) (a .vram .now) (a .xr .now)
+
+tested : (c : tie.After-lent-refusal) → c .lent-refusal .result ≡ refusal (here c) step
+tested c = let a = began c .args in c .lent-refusal .ensures ∙ sym (step-refusal (stateAt (a .s .now)) (a .vram .now) (a .xr .now))
+
+accepted : (c : tie.Else1) → refusal (here (c .before)) step ≡ 0
+accepted c = sym (tested (c .before)) ∙ c .if1 .left
+
 returns : tie.Need-returns
-returns c =
-    let at-lent-refusal = c .before in
-    let start = at-lent-refusal .before .before .before .before .before .before in
-    let a = start .args in
-    let here = adapterAt (a .s .now) (a .vram .now) (a .xr .now) in (
-      refused here step _ (at-lent-refusal .lent-refusal .ensures ∙ sym (step-refusal (stateAt (a .s .now)) (a .vram .now) (a .xr .now)))
-          (c .if1 .taken),
-      λ _. refl,
-    )
+returns c = (refused (here (c .before)) step _ (tested (c .before)) (c .if1 .taken), λ _. refl)
 
 step-requires : tie.Need-step-requires
 step-requires c κs =
     let at-if1 = c .before .before in
-    let at-lent-refusal = at-if1 .before in
-    let start = at-lent-refusal .before .before .before .before .before .before in
-    let a = start .args in
-    let fine = step-lent (stateAt (a .s .now)) (a .vram .now) (a .xr .now)
-    (sym (at-lent-refusal .lent-refusal .ensures ∙ sym (step-refusal (stateAt (a .s .now)) (a .vram .now) (a .xr .now))) ∙ at-if1 .if1 .left) in
+    let a = began (at-if1 .before) .args in
+    let fine = step-lent (stateAt (a .s .now)) (a .vram .now) (a .xr .now) (accepted at-if1) in
     (search needs, (fine .vram, ready (stateAt (a .s .now)) (fine .state)))
 
 same-length : tie.Need-same-length
@@ -46,15 +49,9 @@ unfolding done given
 returns-2 c =
     let at-step = c .before .before in
     let at-if1 = at-step .before .before .before in
-    let at-lent-refusal = at-if1 .before in
-    let start = at-lent-refusal .before .before .before .before .before .before in
-    let a = start .args in
-    let here = adapterAt (a .s .now) (a .vram .now) (a .xr .now) in
-    let told = at-step .step .ensures in (
-      performed here step _ _ (sym (at-lent-refusal .lent-refusal .ensures ∙ sym (step-refusal (stateAt (a .s .now)) (a .vram .now) (a .xr .now))) ∙
-          at-if1 .if1 .left) (told .1 (a .xr .now)) (told .0 (a .xr .now)),
-      λ n. absurd (n refl),
-    )
+    let x = began (at-if1 .before) .args .xr .now in
+    let told = at-step .step .ensures in
+    (performed (here (at-if1 .before)) step _ _ (accepted at-if1) (told .1 x) (told .0 x), λ n. absurd (n refl))
 
 pub blit-step-spec : {M : Type 1} → statement M
 blit-step-spec =

@@ -1,8 +1,11 @@
 -- Refused, or done.
-use mathlib.Core.Path.{refl, sym, _∙_}
+use mathlib.Core.Path.{_≡_, refl, sym, _∙_}
+use mathlib.Core.List.{List}
+use Prim.Native.Nat.{ℕ}
 use Rattle.xosera.specs.State.{stateAt}
-use Rattle.xosera.specs.Adapter.{adapterAt}
+use Rattle.xosera.specs.Adapter.{Adapter, adapterAt}
 use Rattle.xosera.specs.Events.{frameEnd, call}
+use Rattle.xosera.specs.Refusals.{refusal}
 use Rattle.xosera.specs.Calls.{actOf, done, given}
 use Rattle.refusals.proofs.Order.{a-frame-end, state-refusal}
 use Rattle.adapter.proofs.Answers.{refused, performed}
@@ -16,15 +19,15 @@ registers-in-range-requires c κs = search needs
 state-refusal-requires : tie.Need-state-refusal-requires
 state-refusal-requires c κs = search needs
 
+-- The words at the call, with any memories, and whether they are refused.
+abbrev here : tie.After-state-refusal → List ℕ → List ℕ → Adapter
+here c = adapterAt (c .before .before .before .before .args .s .now)
+
+tested : (c : tie.After-state-refusal) (v x : List ℕ) → c .state-refusal .result ≡ refusal (here c v x) (call frameEnd)
+tested c v x = c .state-refusal .ensures ∙ sym (state-refusal (stateAt (c .before .before .before .before .args .s .now)) v x a-frame-end)
+
 returns : tie.Need-returns
-returns c =
-    let at-state-refusal = c .before in
-    let start = at-state-refusal .before .before .before .before in
-    let a = start .args in (
-      λ v x. refused (adapterAt (a .s .now) v x) (call frameEnd) _
-          (at-state-refusal .state-refusal .ensures ∙ sym (state-refusal (stateAt (a .s .now)) v x a-frame-end)) (c .if1 .taken),
-      λ _. refl,
-    )
+returns c = (λ v x. refused (here (c .before) v x) (call frameEnd) _ (tested (c .before) v x) (c .if1 .taken), λ _. refl)
 
 frame-end-requires : tie.Need-frame-end-requires
 frame-end-requires c κs = search needs
@@ -33,12 +36,8 @@ returns-2 : tie.Need-returns-2
 unfolding done actOf given
 returns-2 c =
     let at-if1 = c .before .before in
-    let at-state-refusal = at-if1 .before in
-    let start = at-state-refusal .before .before .before .before in
-    let a = start .args in (
-      λ v x. performed (adapterAt (a .s .now) v x) (call frameEnd) 0 _
-          (sym (at-state-refusal .state-refusal .ensures ∙ sym (state-refusal (stateAt (a .s .now)) v x a-frame-end)) ∙ at-if1 .if1 .left) refl
-          (c .frame-end .ensures v x),
+    let at-test = at-if1 .before in (
+      λ v x. performed (here at-test v x) (call frameEnd) 0 _ (sym (tested at-test v x) ∙ at-if1 .if1 .left) refl (c .frame-end .ensures v x),
       λ n. absurd (n refl),
     )
 

@@ -1,10 +1,11 @@
 -- Refused, or done with the byte read first.
-use mathlib.Core.Path.{refl, sym, _∙_}
+use mathlib.Core.Path.{_≡_, refl, sym, _∙_}
 use Rattle.xosera.specs.State.{stateAt}
-use Rattle.xosera.specs.Adapter.{adapterAt}
-use Rattle.xosera.specs.Events.{read, call}
+use Rattle.xosera.specs.Adapter.{Adapter, adapterAt}
+use Rattle.xosera.specs.Events.{Event, read, call}
+use Rattle.xosera.specs.Refusals.{refusal}
 use Rattle.xosera.specs.Calls.{actOf, done}
-use Rattle.refusals.proofs.Accepted.{read-lent}
+use Rattle.refusals.proofs.Accepted.{Lent, read-lent}
 use Rattle.adapter.proofs.Answers.{refused, performed}
 use borrow.Author.Needs.{needs}
 use Rattle.adapter.proofs.read_byte.Statement.{statement}
@@ -16,48 +17,44 @@ registers-in-range-requires c κs = search needs
 read-refusal-requires : tie.Need-read-refusal-requires
 read-refusal-requires c κs = search needs
 
+-- The adapter at the call, the event, and whether it is refused.
+abbrev began : tie.After-read-refusal → tie.Start
+began c = c .before .before .before .before .before .before
+
+abbrev here : tie.After-read-refusal → Adapter
+here c = let a = began c .args in adapterAt (a .s .now) (a .vram .now) (a .xr .now)
+
+abbrev event : tie.After-read-refusal → Event
+event c = let a = began c .args in call (read (a .reg) (a .odd))
+
+tested : (c : tie.After-read-refusal) → c .read-refusal .result ≡ refusal (here c) (event c)
+tested c = let a = began c .args in c .read-refusal .ensures (a .vram .now) (a .xr .now) (a .odd) refl refl
+
+accepted : (c : tie.Else1) → refusal (here (c .before)) (event (c .before)) ≡ 0
+accepted c = sym (tested (c .before)) ∙ c .if1 .left
+
+fine : (c : tie.Else1) → let a = began (c .before) .args in Lent (stateAt (a .s .now)) (a .vram .now) (a .xr .now)
+fine c = let a = began (c .before) .args in read-lent (stateAt (a .s .now)) (a .vram .now) (a .xr .now) (a .reg) (a .odd) (accepted c)
+
 returns : tie.Need-returns
-returns c =
-    let at-read-refusal = c .before in
-    let start = at-read-refusal .before .before .before .before .before .before in
-    let a = start .args in
-    let here = adapterAt (a .s .now) (a .vram .now) (a .xr .now) in (
-      refused here (call (read (a .reg) (a .odd))) _ (at-read-refusal .read-refusal .ensures (a .vram .now) (a .xr .now) (a .odd) refl refl)
-          (c .if1 .taken),
-      λ _. refl,
-    )
+returns c = (refused (here (c .before)) (event (c .before)) _ (tested (c .before)) (c .if1 .taken), λ _. refl)
 
 byte-read-requires : tie.Need-byte-read-requires
-byte-read-requires c κs =
-    let at-if1 = c .before .before in
-    let at-read-refusal = at-if1 .before in
-    let start = at-read-refusal .before .before .before .before .before .before in
-    let a = start .args in
-    let fine = read-lent (stateAt (a .s .now)) (a .vram .now) (a .xr .now) (a .reg) (a .odd)
-    (sym (at-read-refusal .read-refusal .ensures (a .vram .now) (a .xr .now) (a .odd) refl refl) ∙ at-if1 .if1 .left) in
-    (search needs, fine .state)
+byte-read-requires c κs = (search needs, fine (c .before .before) .state)
 
 read-requires : tie.Need-read-requires
 read-requires c κs =
-    let at-if1 = c .before .before .before .before in
-    let at-read-refusal = at-if1 .before in
-    let start = at-read-refusal .before .before .before .before .before .before in
-    let a = start .args in
-    let fine = read-lent (stateAt (a .s .now)) (a .vram .now) (a .xr .now) (a .reg) (a .odd)
-    (sym (at-read-refusal .read-refusal .ensures (a .vram .now) (a .xr .now) (a .odd) refl refl) ∙ at-if1 .if1 .left) in
-    (search needs, (fine .vram, fine .xr))
+    let lent = fine (c .before .before .before .before) in
+    (search needs, (lent .vram, lent .xr))
 
 returns-2 : tie.Need-returns-2
 unfolding done actOf
 returns-2 c =
     let at-byte-read = c .before .before in
     let at-if1 = at-byte-read .before .before .before in
-    let at-read-refusal = at-if1 .before in
-    let start = at-read-refusal .before .before .before .before .before .before in
-    let a = start .args in
-    let here = adapterAt (a .s .now) (a .vram .now) (a .xr .now) in (
-      performed here (call (read (a .reg) (a .odd))) _ _ (sym (at-read-refusal .read-refusal .ensures (a .vram .now) (a .xr .now) (a .odd) refl refl)
-          ∙ at-if1 .if1 .left) (at-byte-read .byte-read .ensures (a .vram .now) (a .xr .now)) (c .read .ensures),
+    let at-test = at-if1 .before in
+    let a = began at-test .args in (
+      performed (here at-test) (event at-test) _ _ (accepted at-if1) (at-byte-read .byte-read .ensures (a .vram .now) (a .xr .now)) (c .read .ensures),
       λ n. absurd (n refl),
     )
 

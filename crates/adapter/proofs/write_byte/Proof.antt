@@ -1,8 +1,9 @@
 -- Refused, or done.
-use mathlib.Core.Path.{refl, sym, _∙_}
+use mathlib.Core.Path.{_≡_, refl, sym, _∙_}
 use Rattle.xosera.specs.State.{stateAt}
-use Rattle.xosera.specs.Adapter.{adapterAt}
-use Rattle.xosera.specs.Events.{write, call}
+use Rattle.xosera.specs.Adapter.{Adapter, adapterAt}
+use Rattle.xosera.specs.Events.{Event, write, call}
+use Rattle.xosera.specs.Refusals.{refusal}
 use Rattle.xosera.specs.Calls.{actOf, done, given}
 use Rattle.refusals.proofs.Accepted.{latch-byte, write-lent}
 use Rattle.adapter.proofs.Answers.{refused, performed}
@@ -13,25 +14,30 @@ use Rattle.adapter.proofs.write_byte.Tie as tie
 write-refusal-requires : tie.Need-write-refusal-requires
 write-refusal-requires c κs = search needs
 
+-- The adapter at the call, the event, and whether it is refused.
+abbrev began : tie.After-write-refusal → tie.Start
+began c = c .before .before .before .before
+
+abbrev here : tie.After-write-refusal → Adapter
+here c = let a = began c .args in adapterAt (a .s .now) (a .vram .now) (a .xr .now)
+
+abbrev event : tie.After-write-refusal → Event
+event c = let a = began c .args in call (write (a .reg) (a .odd) (a .byte))
+
+tested : (c : tie.After-write-refusal) → c .write-refusal .result ≡ refusal (here c) (event c)
+tested c = let a = began c .args in c .write-refusal .ensures (a .vram .now) (a .xr .now) refl refl
+
+accepted : (c : tie.Else1) → refusal (here (c .before)) (event (c .before)) ≡ 0
+accepted c = sym (tested (c .before)) ∙ c .if1 .left
+
 returns : tie.Need-returns
-returns c =
-    let at-write-refusal = c .before in
-    let start = at-write-refusal .before .before .before .before in
-    let a = start .args in
-    let here = adapterAt (a .s .now) (a .vram .now) (a .xr .now) in (
-      refused here (call (write (a .reg) (a .odd) (a .byte))) _ (at-write-refusal .write-refusal .ensures (a .vram .now) (a .xr .now) refl refl)
-          (c .if1 .taken),
-      λ _. refl,
-    )
+returns c = (refused (here (c .before)) (event (c .before)) _ (tested (c .before)) (c .if1 .taken), λ _. refl)
 
 write-requires : tie.Need-write-requires
 write-requires c κs =
     let at-if1 = c .before .before .before in
-    let at-write-refusal = at-if1 .before in
-    let start = at-write-refusal .before .before .before .before in
-    let a = start .args in
-    let fine = write-lent (stateAt (a .s .now)) (a .vram .now) (a .xr .now) (a .reg) (a .odd) (a .byte)
-    (sym (at-write-refusal .write-refusal .ensures (a .vram .now) (a .xr .now) refl refl) ∙ at-if1 .if1 .left) in
+    let a = began (at-if1 .before) .args in
+    let fine = write-lent (stateAt (a .s .now)) (a .vram .now) (a .xr .now) (a .reg) (a .odd) (a .byte) (accepted at-if1) in
     (search needs, (fine .0 .vram, (fine .0 .xr, (fine .1, latch-byte (stateAt (a .s .now)) (a .reg) (fine .0 .state)))))
 
 same-length : tie.Need-same-length
@@ -45,15 +51,8 @@ unfolding done actOf given
 returns-2 c =
     let at-write = c .before .before .before .before in
     let at-if1 = at-write .before .before .before .before in
-    let at-write-refusal = at-if1 .before in
-    let start = at-write-refusal .before .before .before .before in
-    let a = start .args in
-    let here = adapterAt (a .s .now) (a .vram .now) (a .xr .now) in (
-      performed here (call (write (a .reg) (a .odd) (a .byte))) 0 _
-          (sym (at-write-refusal .write-refusal .ensures (a .vram .now) (a .xr .now) refl refl) ∙ at-if1 .if1 .left) refl (at-write .write .ensures),
-      λ n.
-          absurd (n refl),
-    )
+    let at-test = at-if1 .before in
+    (performed (here at-test) (event at-test) 0 _ (accepted at-if1) refl (at-write .write .ensures), λ n. absurd (n refl))
 
 pub write-byte-spec : {M : Type 1} → statement M
 write-byte-spec =

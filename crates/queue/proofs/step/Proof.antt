@@ -1,7 +1,10 @@
 -- Nothing, the last word of a blit, or another of its words.
-use mathlib.Core.Path.{sym, ap, _∙_}
+use mathlib.Core.Path.{_≡_, sym, ap, _∙_}
+use mathlib.Core.Bool.{true}
+use mathlib.Core.List.{List}
+use Prim.Native.Nat.{ℕ}
 use borrow.Author.Tests.{eq-eqb}
-use Rattle.xosera.specs.State.{stateAt}
+use Rattle.xosera.specs.State.{State, isSet, stateAt}
 use Rattle.xosera.specs.Refusals.{engineInRange}
 use Rattle.queue.proofs.OneStep.{running, idle, step-idle, step-ends, step-goes-on, counts-none, counts-one}
 use borrow.Author.Needs.{needs}
@@ -14,14 +17,28 @@ engine-of-requires c κs = search needs
 same-length : tie.Need-same-length
 same-length c = search needs
 
+-- The state and VRAM at the call, and the engine that was read there.
+abbrev began : tie.After-engine-of → tie.Start
+began c = c .before .before .before .before
+
+abbrev state-at : tie.After-engine-of → State
+state-at c = stateAt (began c .args .s .now)
+
+abbrev vram-at : tie.After-engine-of → List ℕ
+vram-at c = began c .args .vram .now
+
+on : (c : tie.Else1) → isSet (state-at (c .before .before) .engine .running) ≡ true
+on c =
+    let read = c .before .before in
+    running (state-at read) (vram-at read) (read .engine-of .ensures) (c .if1 .left)
+
 returns : tie.Need-returns
 returns c =
-    let at-engine-of = c .before .before in
-    let start = at-engine-of .before .before .before .before in
-    let s = stateAt (start .args .s .now) in
-    let v = start .args .vram .now in
-    let off = idle s v (at-engine-of .engine-of .ensures) (c .if1 .taken) in
-    (step-idle s v (at-engine-of .engine-of .ensures) off, λ x. counts-none s v x (start .pre .1 .1) off)
+    let read = c .before .before in
+    let s = state-at read in
+    let v = vram-at read in
+    let off = idle s v (read .engine-of .ensures) (c .if1 .taken) in
+    (step-idle s v (read .engine-of .ensures) off, λ x. counts-none s v x (began read .pre .1 .1) off)
 
 draw-requires : tie.Need-draw-requires
 draw-requires c κs = search needs
@@ -45,15 +62,10 @@ returns-2 c =
     let at-last-step = at-if2 .before in
     let at-draw = at-last-step .before .before .before in
     let at-if1 = at-draw .before .before in
-    let at-engine-of = at-if1 .before .before in
-    let start = at-engine-of .before .before .before .before in
-    let s = stateAt (start .args .s .now) in
-    let v = start .args .vram .now in
-    let here = at-engine-of .engine-of .ensures in
-    let on = running s v here (at-if1 .if1 .left) in (
-      step-ends s v here on (sym (at-last-step .last-step .ensures) ∙ at-if2 .if2 .taken) (at-draw .draw .ensures .1)
-          (at-end-blit .end-blit .ensures),
-      λ x. counts-one s v x (start .pre .1 .1) on,
+    let read = at-if1 .before .before in (
+      step-ends (state-at read) (vram-at read) (read .engine-of .ensures) (on at-if1) (sym (at-last-step .last-step .ensures) ∙ at-if2 .if2 .taken)
+          (at-draw .draw .ensures .1) (at-end-blit .end-blit .ensures),
+      λ x. counts-one (state-at read) (vram-at read) x (began read .pre .1 .1) (on at-if1),
     )
 
 advance-requires : tie.Need-advance-requires
@@ -61,13 +73,9 @@ advance-requires c κs =
     let at-if2 = c .before in
     let at-last-step = at-if2 .before in
     let at-if1 = at-last-step .before .before .before .before .before in
-    let at-engine-of = at-if1 .before .before in
-    let start = at-engine-of .before .before .before .before in
-    let s = stateAt (start .args .s .now) in
-    let here = at-engine-of .engine-of .ensures in (
-      record { running = eq-eqb _ 1 (at-if1 .if1 .left); in-range = ap engineInRange here ∙ start .pre .1 .1 .engine },
-      sym
-          (at-last-step .last-step .ensures) ∙ at-if2 .if2 .left,
+    let read = at-if1 .before .before in (
+      record { running = eq-eqb _ 1 (at-if1 .if1 .left); in-range = ap engineInRange (read .engine-of .ensures) ∙ began read .pre .1 .1 .engine },
+      sym (at-last-step .last-step .ensures) ∙ at-if2 .if2 .left,
     )
 
 move-on-requires : tie.Need-move-on-requires
@@ -87,15 +95,10 @@ returns-3 c =
     let at-last-step = at-if2 .before in
     let at-draw = at-last-step .before .before .before in
     let at-if1 = at-draw .before .before in
-    let at-engine-of = at-if1 .before .before in
-    let start = at-engine-of .before .before .before .before in
-    let s = stateAt (start .args .s .now) in
-    let v = start .args .vram .now in
-    let here = at-engine-of .engine-of .ensures in
-    let on = running s v here (at-if1 .if1 .left) in (
-      step-goes-on s v here on (sym (at-last-step .last-step .ensures) ∙ at-if2 .if2 .left) (at-draw .draw .ensures .0) (at-draw .draw .ensures .1)
-          (at-advance .advance .ensures) (at-move-on .move-on .ensures),
-      λ x. counts-one s v x (start .pre .1 .1) on,
+    let read = at-if1 .before .before in (
+      step-goes-on (state-at read) (vram-at read) (read .engine-of .ensures) (on at-if1) (sym (at-last-step .last-step .ensures) ∙ at-if2 .if2 .left)
+          (at-draw .draw .ensures .0) (at-draw .draw .ensures .1) (at-advance .advance .ensures) (at-move-on .move-on .ensures),
+      λ x. counts-one (state-at read) (vram-at read) x (began read .pre .1 .1) (on at-if1),
     )
 
 pub step-spec : {M : Type 1} → statement M

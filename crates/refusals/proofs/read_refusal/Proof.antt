@@ -1,10 +1,7 @@
 -- 1 to 3, then 4.
-use mathlib.Core.Path.{sym, _∙_}
 use native.Mathlib.Omega.{arith}
-use borrow.Author.Tests.{le-ltb, lt-ltb}
 use Rattle.xosera.specs.State.{stateAt}
-use Rattle.xosera.specs.Refusals.{badRegister, first}
-use Rattle.refusals.proofs.Order.{read-first, read-passed}
+use Rattle.refusals.proofs.Order.{read-first, read-over, read-done}
 use borrow.Author.Needs.{needs}
 use Rattle.refusals.proofs.read_refusal.Statement.{statement}
 use Rattle.refusals.proofs.read_refusal.Tie as tie
@@ -15,26 +12,23 @@ lent-refusal-requires c κs = search needs
 returns : tie.Need-returns
 returns c =
     let at-lent-refusal = c .before in
-    let start = at-lent-refusal .before in
-    λ v x odd p q. read-first (stateAt (start .args .s .now)) v x p q (at-lent-refusal .lent-refusal .ensures) (start .args .reg) odd (c .if1 .taken)
+    let r = at-lent-refusal .before .args in
+    λ v x odd p q. read-first (stateAt (r .s .now)) v x p q (at-lent-refusal .lent-refusal .ensures) (r .reg) odd (c .if1 .taken)
 
 returns-2 : tie.Need-returns-2
-unfolding first badRegister
 returns-2 c =
     let at-if1 = c .before in
     let at-lent-refusal = at-if1 .before in
-    let start = at-lent-refusal .before in
-    λ v x odd p q. sym (read-passed (stateAt (start .args .s .now)) v x p q (at-lent-refusal .lent-refusal .ensures) (start .args .reg) odd (at-if1 .if1 .left)
-    ∙ rw (le-ltb (start .args .reg) 16 (c .if2 .taken)))
+    let r = at-lent-refusal .before .args in
+    λ v x odd p q. read-over (stateAt (r .s .now)) v x p q (at-lent-refusal .lent-refusal .ensures) (at-if1 .if1 .left) (r .reg) odd (c .if2 .taken)
 
 returns-3 : tie.Need-returns-3
-unfolding first badRegister
 returns-3 c =
     let at-if1 = c .before in
     let at-lent-refusal = at-if1 .before in
-    let start = at-lent-refusal .before in
-    λ v x odd p q. sym (read-passed (stateAt (start .args .s .now)) v x p q (at-lent-refusal .lent-refusal .ensures) (start .args .reg) odd (at-if1 .if1 .left)
-    ∙ rw (lt-ltb (start .args .reg) 16 (omega (arith, c .if2 .left))))
+    let r = at-lent-refusal .before .args in
+    λ v x odd p q. read-done (stateAt (r .s .now)) v x p q (at-lent-refusal .lent-refusal .ensures) (at-if1 .if1 .left) (r .reg) odd
+    (omega (arith, c .if2 .left))
 
 pub read-refusal-spec : {M : Type 1} → statement M
 read-refusal-spec = tie.close (tie.spec lent-refusal-requires returns returns-2 returns-3)

@@ -1,8 +1,8 @@
 -- The registers, then the blitter.
-use mathlib.Core.Path.{sym, _∙_}
+use mathlib.Core.Path.{_≡_, sym, _∙_}
 use borrow.Author.Tests.{not-true, not-false}
 use Rattle.xosera.specs.State.{stateAt}
-use Rattle.xosera.specs.Refusals.{first}
+use Rattle.xosera.specs.Refusals.{inRange, first}
 use Rattle.ranges.proofs.Halves.{halves}
 use borrow.Author.Needs.{needs}
 use Rattle.refusals.proofs.state_refusal.Statement.{statement}
@@ -17,29 +17,24 @@ returns c =
 blitter-in-range-requires : tie.Need-blitter-in-range-requires
 blitter-in-range-requires c κs = search needs
 
-returns-2 : tie.Need-returns-2
-unfolding first
-returns-2 c =
-    let at-blitter = c .before in
-    let at-if1 = at-blitter .before in
+-- With the registers in their ranges the whole state is where the blitter is.
+whole : (c : tie.After-blitter-in-range) → inRange (stateAt (c .before .before .args .s .now)) ≡ c .blitter-in-range .result
+whole c =
+    let at-if1 = c .before in
     let start = at-if1 .before in
     rw (
       halves (stateAt (start .args .s .now)),
       sym (start .pre) ∙ not-false _ (at-if1 .if1 .left),
-      sym (at-blitter .blitter-in-range .ensures) ∙ c .if2 .taken,
+      sym (c .blitter-in-range .ensures),
     )
+
+returns-2 : tie.Need-returns-2
+unfolding first
+returns-2 c = rw (whole (c .before) ∙ c .if2 .taken)
 
 returns-3 : tie.Need-returns-3
 unfolding first
-returns-3 c =
-    let at-blitter = c .before in
-    let at-if1 = at-blitter .before in
-    let start = at-if1 .before in
-    rw (
-      halves (stateAt (start .args .s .now)),
-      sym (start .pre) ∙ not-false _ (at-if1 .if1 .left),
-      sym (at-blitter .blitter-in-range .ensures) ∙ c .if2 .left,
-    )
+returns-3 c = rw (whole (c .before) ∙ c .if2 .left)
 
 pub state-refusal-spec : {M : Type 1} → statement M
 state-refusal-spec =

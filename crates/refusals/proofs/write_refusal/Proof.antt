@@ -1,11 +1,11 @@
 -- 1 to 3, then 4, then those of an odd write.
-use mathlib.Core.Path.{sym, _∙_}
+use mathlib.Core.Path.{_≡_, sym, _∙_}
 use native.Mathlib.Omega.{arith}
-use borrow.Author.Tests.{le-ltb, lt-ltb, not-true, not-false}
+use borrow.Author.Tests.{not-true, not-false}
 use Rattle.xosera.specs.State.{stateAt}
-use Rattle.xosera.specs.Refusals.{badRegister, blitterFull, reconfigures, first}
+use Rattle.refusals.specs.Tested.{lentRefusal}
 use Rattle.refusals.proofs.Accepted.{latch-byte}
-use Rattle.refusals.proofs.Order.{write-first, write-passed, lent-in-range, lengths-first, lengths-passed}
+use Rattle.refusals.proofs.Order.{lengths-first, lengths-passed, write-first, write-over, write-even, write-odd, lent-in-range}
 use borrow.Author.Needs.{needs}
 use Rattle.refusals.proofs.write_refusal.Statement.{statement}
 use Rattle.refusals.proofs.write_refusal.Tie as tie
@@ -16,8 +16,7 @@ lengths-refusal-requires c κs = search needs
 returns : tie.Need-returns
 returns c =
     let at-lengths-refusal = c .before in
-    let start = at-lengths-refusal .before in
-    let r = start .args in
+    let r = at-lengths-refusal .before .args in
     let s = stateAt (r .s .now) in
     let lent = lengths-first (r .vram) (r .xr) s (at-lengths-refusal .lengths-refusal .ensures) (c .if1 .taken) in
     λ v x p q. write-first s v x p q lent (r .reg) (r .odd) (r .byte) (c .if1 .taken)
@@ -28,78 +27,58 @@ registers-in-range-requires c κs = search needs
 state-refusal-requires : tie.Need-state-refusal-requires
 state-refusal-requires c κs = search needs
 
+-- Once the state is tested: the call's start, and refusals 1 to 3.
+abbrev began : tie.After-state-refusal → tie.Start
+began c = c .before .before .before .before
+
+lent : (c : tie.After-state-refusal) →
+    let r = began c .args in c .state-refusal .result ≡ lentRefusal (r .vram) (r .xr) (stateAt (r .s .now))
+lent c =
+    let at-if1 = c .before .before in
+    let r = began c .args in
+    c .state-refusal .ensures ∙ lengths-passed (r .vram) (r .xr) (stateAt (r .s .now)) (at-if1 .before .lengths-refusal .ensures) (at-if1 .if1 .left)
+
 returns-2 : tie.Need-returns-2
 returns-2 c =
-    let at-state-refusal = c .before in
-    let at-if1 = at-state-refusal .before .before in
-    let at-lengths-refusal = at-if1 .before in
-    let start = at-lengths-refusal .before in
-    let r = start .args in
-    let s = stateAt (r .s .now) in
-    let lent = at-state-refusal .state-refusal .ensures ∙ lengths-passed (r .vram) (r .xr) s (at-lengths-refusal .lengths-refusal .ensures)
-    (at-if1 .if1 .left) in
-    λ v x p q. write-first s v x p q lent (r .reg) (r .odd) (r .byte) (c .if2 .taken)
+    let tested = c .before in
+    let r = began tested .args in
+    λ v x p q. write-first (stateAt (r .s .now)) v x p q (lent tested) (r .reg) (r .odd) (r .byte) (c .if2 .taken)
 
 returns-3 : tie.Need-returns-3
-unfolding first badRegister
 returns-3 c =
     let at-if2 = c .before in
-    let at-state-refusal = at-if2 .before in
-    let at-if1 = at-state-refusal .before .before in
-    let at-lengths-refusal = at-if1 .before in
-    let start = at-lengths-refusal .before in
-    let r = start .args in
-    let s = stateAt (r .s .now) in
-    let lent = at-state-refusal .state-refusal .ensures ∙ lengths-passed (r .vram) (r .xr) s (at-lengths-refusal .lengths-refusal .ensures)
-    (at-if1 .if1 .left) in
-    λ v x p q. sym (write-passed s v x p q lent (r .reg) (r .odd) (r .byte) (at-if2 .if2 .left) ∙ rw (le-ltb (r .reg) 16 (c .if3 .taken)))
+    let tested = at-if2 .before in
+    let r = began tested .args in
+    λ v x p q. write-over (stateAt (r .s .now)) v x p q (lent tested) (at-if2 .if2 .left) (r .reg) (r .odd) (r .byte) (c .if3 .taken)
 
 returns-4 : tie.Need-returns-4
-unfolding first badRegister blitterFull reconfigures
 returns-4 c =
     let at-if3 = c .before in
     let at-if2 = at-if3 .before in
-    let at-state-refusal = at-if2 .before in
-    let at-if1 = at-state-refusal .before .before in
-    let at-lengths-refusal = at-if1 .before in
-    let start = at-lengths-refusal .before in
-    let r = start .args in
-    let s = stateAt (r .s .now) in
-    let lent = at-state-refusal .state-refusal .ensures ∙ lengths-passed (r .vram) (r .xr) s (at-lengths-refusal .lengths-refusal .ensures)
-    (at-if1 .if1 .left) in
-    λ v x p q. sym (write-passed s v x p q lent (r .reg) (r .odd) (r .byte) (at-if2 .if2 .left)
-    ∙ rw (lt-ltb (r .reg) 16 (omega (arith, at-if3 .if3 .left)), not-true (r .odd) (c .if4 .taken)))
+    let tested = at-if2 .before in
+    let r = began tested .args in
+    λ v x p q. write-even (stateAt (r .s .now)) v x p q (lent tested) (at-if2 .if2 .left) (r .reg) (r .odd) (r .byte)
+    (omega (arith, at-if3 .if3 .left)) (not-true (r .odd) (c .if4 .taken))
 
 odd-refusal-requires : tie.Need-odd-refusal-requires
 odd-refusal-requires c κs =
     let at-if3 = c .before in
     let at-if2 = at-if3 .before in
-    let at-state-refusal = at-if2 .before in
-    let at-if1 = at-state-refusal .before .before in
-    let at-lengths-refusal = at-if1 .before in
-    let start = at-lengths-refusal .before in
-    let r = start .args in
+    let tested = at-if2 .before in
+    let r = began tested .args in
     let s = stateAt (r .s .now) in
-    let lent = at-state-refusal .state-refusal .ensures ∙ lengths-passed (r .vram) (r .xr) s (at-lengths-refusal .lengths-refusal .ensures)
-    (at-if1 .if1 .left) in
-    (omega (arith, at-if3 .if3 .left), latch-byte s (r .reg) (lent-in-range (r .vram) (r .xr) s (sym lent ∙ at-if2 .if2 .left)))
+    (omega (arith, at-if3 .if3 .left), latch-byte s (r .reg) (lent-in-range (r .vram) (r .xr) s (sym (lent tested) ∙ at-if2 .if2 .left)))
 
 returns-5 : tie.Need-returns-5
-unfolding first badRegister
 returns-5 c =
     let at-if4 = c .before in
     let at-if3 = at-if4 .before in
     let at-if2 = at-if3 .before in
-    let at-state-refusal = at-if2 .before in
-    let at-if1 = at-state-refusal .before .before in
-    let at-lengths-refusal = at-if1 .before in
-    let start = at-lengths-refusal .before in
-    let r = start .args in
-    let s = stateAt (r .s .now) in
-    let lent = at-state-refusal .state-refusal .ensures ∙ lengths-passed (r .vram) (r .xr) s (at-lengths-refusal .lengths-refusal .ensures)
-    (at-if1 .if1 .left) in
-    λ v x p q. c .odd-refusal .ensures v x ∙ sym (write-passed s v x p q lent (r .reg) (r .odd) (r .byte) (at-if2 .if2 .left)
-    ∙ rw (lt-ltb (r .reg) 16 (omega (arith, at-if3 .if3 .left)), not-false (r .odd) (at-if4 .if4 .left)))
+    let tested = at-if2 .before in
+    let r = began tested .args in
+    λ v x p q. c .odd-refusal .ensures v x
+    ∙ write-odd (stateAt (r .s .now)) v x p q (lent tested) (at-if2 .if2 .left) (r .reg) (r .odd) (r .byte) (omega (arith, at-if3 .if3 .left))
+    (not-false (r .odd) (at-if4 .if4 .left))
 
 pub write-refusal-spec : {M : Type 1} → statement M
 write-refusal-spec =
