@@ -2,18 +2,17 @@
 use mathlib.Core.Path.{_≡_, refl, sym, ap, subst, subst₂, _∙_}
 use mathlib.Core.Bool.{true, false, true≢false}
 use mathlib.Core.List.{List}
-use Prim.Native.Nat.{ℕ, zero, suc, _+_, _-_, _≤_, _<_}
+use Prim.Native.Nat.{ℕ, zero, suc, _-_, _<_}
 use native.Mathlib.Omega.{arith}
-use lib.ListN.{length}
 use Rattle.xosera.specs.declared.Engine.{Engine}
 use Rattle.engine.specs.declared.Ran.{Ran}
 use Rattle.xosera.specs.Memories.{isVramLength}
 use Rattle.xosera.specs.State.{isSet}
 use Rattle.xosera.specs.Adapter.{Adapter}
-use Rattle.xosera.specs.Blitter.{lastStep, next, drawn, stepped, steps, engineLeft}
+use Rattle.xosera.specs.Blitter.{lastStep, next, drawn, stepped, steps}
 use Rattle.xosera.proofs.StepCases.{stepped-on, stepped-last}
 use Rattle.xosera.proofs.EngineLaws as Laws
-use Rattle.engine.specs.Progress.{rawWord, advanced, Running, moved, ended, Going, Ended, RanTo}
+use Rattle.engine.specs.Progress.{rawWord, advanced, Running, moved, Going, Ended, RanTo}
 use Rattle.engine.proofs.Words.{next-is}
 
 pub going-start : (e : Engine) (v : List ℕ) (n : ℕ) → Running e → Going e v n e v n

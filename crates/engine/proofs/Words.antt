@@ -1,12 +1,11 @@
 -- One word: what the engine's functions compute from the word taken is what the definitions say.
-use mathlib.Core.Path.{_≡_, refl, sym, _∙_}
+use mathlib.Core.Path.{_≡_, refl}
 use mathlib.Core.Bool.{Bool, true, false, cond}
 use mathlib.Core.List.{List}
-use Prim.Native.Nat.{ℕ, _+_, _/_, _%_, _≤_, _<_}
+use Prim.Native.Nat.{ℕ, _/_, _%_, _≤_, _<_}
 use native.Mathlib.Omega.{arith}
-use borrow.Author.Tests.{eqb-true, eqb-false}
+use borrow.Author.Tests.{eqb-false}
 use lib.Bits.{bitAnd, and-le-r}
-use lib.Dec.{eqb}
 use Rattle.xosera.specs.declared.Engine.{Engine}
 use Rattle.xosera.specs.Words.{bit, shifted, isColour, colourMask}
 use Rattle.xosera.specs.Blitter.{isConstant, fetched, sourced, firstMask, lastWord, lastMask, testMask, writeMask, lastStep, nextKept, next}

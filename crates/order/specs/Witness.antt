@@ -8,7 +8,7 @@ use Rattle.xosera.specs.Adapter.{Adapter}
 use Rattle.xosera.specs.Blitter.{wordsLeft}
 use Rattle.xosera.specs.Events.{Event, write, tick, frameEnd, line, call, step, run}
 use Rattle.xosera.specs.Calls.{after}
-use Rattle.xosera.specs.Sequences.{Starts, startWith, wordsOf, afterAll}
+use Rattle.xosera.specs.Sequences.{Starts, startWith, afterAll}
 use Rattle.order.specs.Order.{stepsIn, blitReads, blitWrites, AllApart, Keeps}
 use Rattle.xosera.specs.BenchTable.{setWord, setXr, readWord, bench, seen, told}
 use Rattle.order.specs.Work.{Fit, AllPatient}

@@ -1,17 +1,17 @@
 -- Some steps of the running blit: on an idle engine none, up to the blit's end, or all of them.
-use mathlib.Core.Path.{_≡_, refl, sym, ap, _∙_}
+use mathlib.Core.Path.{_≡_, refl}
 use mathlib.Core.Bool.{Bool, true, false}
 use mathlib.Core.List.{List}
-use Prim.Native.Nat.{ℕ, _+_, _≤_}
+use Prim.Native.Nat.{ℕ}
 use native.Mathlib.Omega.{arith}
 use borrow.Author.Tests.{eqb-true}
 use Rattle.xosera.specs.declared.BlitRegs.{BlitRegs}
 use Rattle.xosera.specs.declared.Engine.{Engine}
 use Rattle.xosera.specs.State.{State, isSet}
-use Rattle.xosera.specs.Adapter.{Adapter, adapter}
-use Rattle.xosera.specs.Blitter.{idle, launched, succeeding, steps, blitWords, engineLeft, wordsLeft}
+use Rattle.xosera.specs.Adapter.{adapter}
+use Rattle.xosera.specs.Blitter.{idle, launched, succeeding, wordsLeft}
 use Rattle.xosera.specs.Refusals.{engineInRange}
-use Rattle.xosera.proofs.Branches.{cond-either, cond-no}
+use Rattle.xosera.proofs.Branches.{cond-either}
 use Rattle.xosera.proofs.EngineLaws as Laws
 use Rattle.xosera.proofs.RangeLaws.{idle-in-range}
 use Rattle.engine.specs.Progress.{Going, Ended}

@@ -6,11 +6,11 @@ use Prim.Native.Nat.{ℕ}
 use lib.Bits.{bitOr}
 use lib.ListN.{length, set}
 use Rattle.xosera.specs.declared.Engine.{Engine}
-use Rattle.xosera.specs.State.{State, stateWords, isSet, stateBy, wordAt, stateAt}
+use Rattle.xosera.specs.State.{State, stateWords, isSet, wordAt, stateAt}
 use Rattle.xosera.specs.Blitter.{launched, succeeding}
 use Rattle.xosera.specs.Calls.{startedEngine}
 use Rattle.xosera.proofs.Branches.{cond-yes, cond-no}
-use Rattle.xosera.proofs.WordLaws.{_takes_, setAll, stored-state}
+use Rattle.xosera.proofs.WordLaws.{_takes_, stored-state}
 use Rattle.engine_words.specs.Held.{withEngine}
 use Rattle.queue.specs.Work.{startedState, endedState}
 

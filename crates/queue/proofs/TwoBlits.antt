@@ -1,13 +1,13 @@
 -- The running blit and the queued one: two runs of one blit do all the steps that there are.
-use mathlib.Core.Path.{_≡_, refl, sym, ap, _∙_}
-use mathlib.Core.Bool.{Bool, true, false}
+use mathlib.Core.Path.{_≡_, refl, sym, _∙_}
+use mathlib.Core.Bool.{false}
 use mathlib.Core.List.{List}
-use Prim.Native.Nat.{ℕ, zero, suc, _+_, _-_, _≤_, min}
+use Prim.Native.Nat.{ℕ, _+_, _-_, _≤_, min}
 use native.Mathlib.Omega.{arith}
 use native.Mathlib.Decide.{ℕ-discrete}
 use Rattle.xosera.specs.State.{State, isSet}
-use Rattle.xosera.specs.Adapter.{Adapter, adapter}
-use Rattle.xosera.specs.Blitter.{steps, engineLeft, wordsLeft}
+use Rattle.xosera.specs.Adapter.{adapter}
+use Rattle.xosera.specs.Blitter.{steps, wordsLeft}
 use Rattle.xosera.proofs.EngineLaws.{idle-left}
 use Rattle.xosera.proofs.StepLaws.{steps-idle}
 use Rattle.queue.specs.Work.{Ready, OneBlit}

@@ -1,6 +1,6 @@
 -- What a call that is not refused may rely on.
 use mathlib.Core.Path.{_≡_, refl, sym, _∙_}
-use mathlib.Core.Bool.{Bool, true, false, not}
+use mathlib.Core.Bool.{Bool, true, false}
 use mathlib.Core.List.{List, [], _∷_}
 use Prim.Native.Nat.{ℕ, zero, suc, _≤_, _<_}
 use native.Mathlib.Omega.{arith}
@@ -9,13 +9,12 @@ use lib.Dec.{ltb}
 use lib.ListN.{length, getD}
 use Rattle.xosera.specs.State.{State}
 use Rattle.xosera.specs.Memories.{isVramLength, isXrLength}
-use Rattle.xosera.specs.Adapter.{Adapter, adapter}
+use Rattle.xosera.specs.Adapter.{adapter}
 use Rattle.xosera.specs.Events.{Event, write, read, call, step, run}
-use Rattle.xosera.specs.Refusals.{areBytes, inRange, badVram, badXr, badState, badRegister, tests, first, refusal}
+use Rattle.xosera.specs.Refusals.{areBytes, inRange, badVram, badXr, badState, badRegister, tests, refusal}
 use Rattle.xosera.proofs.Branches.{parts}
 use Rattle.xosera.proofs.RangeLaws.{range-facts, host-facts}
 use Rattle.xosera.proofs.RefusalLaws.{applied, accepted-none}
-use Rattle.refusals.specs.Tested.{lentTests, lentRefusal}
 
 -- Memories of the right lengths and a state in range.
 pub record Lent (s : State) (v x : List ℕ) : Type 0 where

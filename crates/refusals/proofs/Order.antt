@@ -8,8 +8,8 @@ use borrow.Author.Tests.{le-ltb, lt-ltb}
 use lib.ListN.{length}
 use Rattle.xosera.specs.State.{State}
 use Rattle.xosera.specs.Memories.{isVramLength, isXrLength}
-use Rattle.xosera.specs.Adapter.{Adapter, adapter}
-use Rattle.xosera.specs.Events.{Call, Event, write, read, tick, frameEnd, line, call, step, run}
+use Rattle.xosera.specs.Adapter.{adapter}
+use Rattle.xosera.specs.Events.{Call, write, read, tick, frameEnd, line, call, step, run}
 use Rattle.xosera.specs.Refusals.{inRange, badVram, badXr, badState, badRegister, blitterFull, reconfigures, Test, _when_, tests, first, refusal}
 use Rattle.refusals.specs.Tested.{lentTests, lengthsRefusal, lentRefusal}
 

@@ -1,10 +1,10 @@
 -- Lists of numbers read as events and answers, from a place on and up to a place.
-use mathlib.Core.Path.{_≡_, refl, sym, ap, _∙_}
+use mathlib.Core.Path.{_≡_, refl, sym, ap}
 use mathlib.Core.List.{List, [], _∷_, _++_}
 use Prim.Native.Nat.{ℕ, zero, suc, _+_, _≤_, _<_}
 use native.Mathlib.Omega.{arith}
 use lib.ListN.{length, getD, take, drop, set, List·getD-eq-default}
-use Rattle.xosera.specs.Events.{Event, Answer, run}
+use Rattle.xosera.specs.Events.{Answer, run}
 use Rattle.sequence.specs.Played.{kinds, eventOf, eventsOf, answersOf}
 
 pub events-next : (ks ns : List ℕ) (i : ℕ) → i < length ks → length ns ≡ length ks

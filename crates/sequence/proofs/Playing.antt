@@ -6,7 +6,7 @@ use native.Mathlib.Numerals.{add-one}
 use lib.ListN.{length, take, drop, set}
 use Rattle.xosera.specs.Adapter.{Adapter}
 use Rattle.xosera.specs.Events.{Event, Answer}
-use Rattle.xosera.specs.Calls.{after, answer}
+use Rattle.xosera.specs.Calls.{after}
 use Rattle.xosera.specs.Sequences.{afterAll}
 use Rattle.adapter.specs.Promises.{Does}
 use Rattle.sequence.specs.Played.{answersOf, allAnswers, Played}

@@ -1,7 +1,7 @@
 -- A number that has no bit in common with the one before it is a power of two.
 use mathlib.Core.Path.{_≡_, refl, sym, subst, _∙_}
 use mathlib.Core.Bool.{Bool, true, false, true≢false, _||_}
-use Prim.Native.Nat.{ℕ, zero, suc, _+_, _-_, _*_, _/_, _%_, _^_, _<_, _≤_, min}
+use Prim.Native.Nat.{ℕ, zero, suc, _+_, _-_, _*_, _/_, _%_, _^_, _≤_, min}
 use native.Mathlib.Nat.{pow-suc}
 use native.Mathlib.Omega.{arith}
 use native.Mathlib.Decide.{ℕ-discrete}
@@ -9,7 +9,7 @@ use borrow.Author.Tests.{lt-leb, eq-eqb, ne-eqb}
 use lib.Bits.{bitAnd, and-step, and-self}
 use lib.Dec.{T, eqb, leb}
 use Rattle.xosera.specs.Memories.{isVramLength}
-use Rattle.words.proofs.Finite.{allBelow, below}
+use Rattle.words.proofs.Finite.{below}
 use Rattle.vram.proofs.Lengths.{nine}
 
 power : (P : ℕ → Type 0) (k : ℕ) → ((j : ℕ) → j ≤ k → P (2 ^ j)) → (n : ℕ) → 1 ≤ n → n ≤ 2 ^ k → bitAnd n (n - 1) ≡ 0 → P n

@@ -1,14 +1,14 @@
 -- A store as the code does it, whatever the mask.
-use mathlib.Core.Path.{_≡_, refl, sym, ap, _∙_}
+use mathlib.Core.Path.{_≡_, refl}
 use mathlib.Core.Bool.{Bool, true, false, cond}
 use mathlib.Core.List.{List}
-use Prim.Native.Nat.{ℕ, _+_, _*_, _<_}
+use Prim.Native.Nat.{ℕ, _<_}
 use native.Mathlib.Omega.{arith}
 use borrow.Author.Tests.{eqb-true}
 use lib.Dec.{eqb}
 use lib.ListN.{set, getD}
 use lib.Seq.{set-getD}
-use Rattle.xosera.specs.Words.{bit, nibble, chosen, merged}
+use Rattle.xosera.specs.Words.{bit, chosen, merged}
 use Rattle.xosera.specs.Memories.{Store, place, word, stored}
 use Rattle.words.proofs.Nibbles.{split}
 

@@ -5,7 +5,7 @@ use Prim.Native.Nat.{ℕ, _+_, _*_, _/_, _%_, _<_, _≤_}
 use native.Mathlib.Omega.{arith}
 use borrow.Author.Tests.{eqb-true, eqb-false, eq-eqb, ne-eqb}
 use lib.Bits.{bitAnd, bitOr, bitXor, and-block, or-block, xor-block, or-lt, xor-lt, and-le-l, and-le-r, xor-add-and, xor-self}
-use lib.Dec.{T, eqb, eqb→eq}
+use lib.Dec.{eqb, eqb→eq}
 use Rattle.xosera.specs.Words.{bit, nibble, isColour, colourMask}
 use Rattle.words.specs.Spread.{spread}
 use Rattle.words.proofs.Finite.{below, ways}

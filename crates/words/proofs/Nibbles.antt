@@ -1,9 +1,9 @@
 -- A word is its four nibbles, and bitwise operations go nibble by nibble.
 use mathlib.Core.Path.{_≡_, refl, sym, ap, ap₂, _∙_}
 use mathlib.Core.Bool.{Bool, true, false, cond}
-use Prim.Native.Nat.{ℕ, _+_, _*_, _-_, _/_, _%_, _<_, _≤_, _^_}
+use Prim.Native.Nat.{ℕ, _+_, _*_, _-_, _/_, _%_, _<_, _^_}
 use native.Mathlib.Omega.{arith}
-use lib.Bits.{bitAnd, bitOr, and-block, or-block, and-lt, or-lt, and-zero-r, and-mask, and-mod, or-zero-r, or-zero-l}
+use lib.Bits.{bitAnd, bitOr, and-block, or-block, and-lt, and-zero-r, and-mask, and-mod, or-zero-r, or-zero-l}
 use lib.Dec.{T, eqb, eqb→eq}
 use Rattle.xosera.specs.Words.{bit, nibble, chosen, merged}
 use Rattle.words.specs.Spread.{spread}

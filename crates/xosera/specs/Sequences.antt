@@ -1,6 +1,6 @@
 -- The start of a blit, and a list of events one after another (document 01, "The order of things").
 use mathlib.Core.Path.{_≡_}
-use mathlib.Core.Bool.{true, false}
+use mathlib.Core.Bool.{true}
 use mathlib.Core.List.{List, [], _∷_}
 use Prim.Native.Nat.{ℕ}
 use Rattle.xosera.specs.Adapter.{Adapter}

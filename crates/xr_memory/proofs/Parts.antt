@@ -4,9 +4,9 @@ use mathlib.Core.Bool.{Bool, true, false, _&&_}
 use mathlib.Core.List.{List, [], _∷_}
 use Prim.Native.Nat.{ℕ, _+_, _-_, _≤_, _<_}
 use native.Mathlib.Omega.{arith}
-use borrow.Author.Tests.{lt-leb, le-ltb, ltb-true}
-use lib.Dec.{leb, ltb}
-use lib.ListN.{length, getD, take, drop, List·getD-eq-default}
+use borrow.Author.Tests.{lt-leb, le-ltb}
+use lib.Dec.{leb}
+use lib.ListN.{getD, take, drop, List·getD-eq-default}
 use lib.Seq.{getD-take, getD-drop}
 use Rattle.xosera.specs.State.{Video}
 use Rattle.xosera.specs.XrSpace.{within, registerRead}

@@ -1,5 +1,5 @@
 -- What a write in the XR space comes to: in memory, at 0x03, at 0x49 and at any other register.
-use mathlib.Core.Path.{_≡_, refl, sym, ap, _∙_}
+use mathlib.Core.Path.{_≡_, ap, _∙_}
 use mathlib.Core.List.{List}
 use Prim.Native.Nat.{ℕ, _≤_, _<_}
 use native.Mathlib.Omega.{arith}
@@ -10,7 +10,7 @@ use Rattle.xosera.specs.Memories.{stored}
 use Rattle.xosera.specs.Adapter.{changed, adapter}
 use Rattle.xosera.specs.XrSpace as XrSpace
 use Rattle.xosera.specs.XrSpace.{within, videoWrite, blitWrite, xrMemoryWrite, xrWrite}
-use Rattle.xosera.specs.Calls.{startedEngine, perform}
+use Rattle.xosera.specs.Calls.{perform}
 use Rattle.xr_memory.proofs.Parts.{below-range}
 use Rattle.xr_registers.specs.Places.{registerWritten}
 use Rattle.xr_registers.proofs.Registers.{no-video, no-blit}

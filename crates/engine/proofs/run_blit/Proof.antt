@@ -1,6 +1,6 @@
 -- The invariant: so many of the n steps are done, and the blit goes on. Each turn goes through the inside of a line
 -- and does one word at its edge; the blit's last word returns.
-use mathlib.Core.Path.{_≡_, refl, sym, _∙_}
+use mathlib.Core.Path.{refl, sym, _∙_}
 use native.Mathlib.Omega.{arith}
 use Rattle.engine.specs.Progress.{Going}
 use Rattle.engine.proofs.Runs.{going-start, going-trans, going-drawn, drawn-ended, ran-all, ran-over, long-enough}

@@ -1,5 +1,5 @@
 -- By CTRL bit 4.
-use mathlib.Core.Path.{refl, sym, _∙_}
+use mathlib.Core.Path.{sym, _∙_}
 use Rattle.xosera.specs.Words.{bit}
 use Rattle.xosera.specs.Blitter.{testMask}
 use Rattle.words.specs.Spread.{spread}

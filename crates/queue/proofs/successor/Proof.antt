@@ -1,7 +1,7 @@
 -- By whether a blit is queued.
-use mathlib.Core.Path.{refl, sym, ap, _∙_}
+use mathlib.Core.Path.{sym, ap, _∙_}
 use borrow.Author.Tests.{eq-eqb, ne-eqb}
-use Rattle.xosera.specs.State.{State, isSet, wordAt, stateAt}
+use Rattle.xosera.specs.State.{stateAt}
 use Rattle.xosera.specs.Blitter.{launched, succeeding}
 use Rattle.xosera.proofs.Branches.{cond-yes, cond-no}
 use borrow.Author.Needs.{needs}

@@ -1,7 +1,4 @@
 -- The length is a power of two.
-use mathlib.Core.Path.{_≡_, sym, subst}
-use Prim.Native.Nat.{ℕ, _<_}
-use native.Mathlib.Omega.{arith}
 use native.Mathlib.Nat.{mod-lt}
 use Rattle.vram.proofs.Lengths.{length-bounds, masked}
 use borrow.Author.Needs.{needs}

@@ -1,5 +1,4 @@
 -- The word at the place of the address.
-use mathlib.Core.Path.{_≡_, refl, sym, _∙_}
 use Rattle.xosera.specs.Memories.{place, word}
 use borrow.Author.Needs.{needs}
 use Rattle.vram.proofs.read_word.Statement.{statement}

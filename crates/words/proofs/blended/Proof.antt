@@ -1,5 +1,4 @@
 -- The spread mask takes whole nibbles.
-use mathlib.Core.Path.{_∙_}
 use Rattle.words.proofs.Nibbles.{merged-bits}
 use Rattle.words.proofs.blended.Statement.{statement}
 use Rattle.words.proofs.blended.Tie as tie

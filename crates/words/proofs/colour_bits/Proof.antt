@@ -1,5 +1,4 @@
 -- By the kind of test that was asked for. The sum and the products stay in a word.
-use mathlib.Core.Path.{_∙_}
 use Prim.Native.Nat.{_*_}
 use borrow.Author.Needs.{needs}
 use native.Mathlib.Omega.{arith}

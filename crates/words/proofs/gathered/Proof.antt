@@ -1,5 +1,4 @@
 -- At each of the sixteen masks the four bits come back.
-use mathlib.Core.Path.{_∙_}
 use Rattle.words.proofs.Nibbles.{gather-spread}
 use Rattle.words.proofs.gathered.Statement.{statement}
 use Rattle.words.proofs.gathered.Tie as tie

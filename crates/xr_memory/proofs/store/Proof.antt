@@ -1,5 +1,4 @@
 -- Each part by its range; a store to the colour part is a store to the whole, 5,120 words on.
-use mathlib.Core.Path.{sym, _∙_}
 use Prim.Native.Nat.{_-_}
 use native.Mathlib.Omega.{arith}
 use borrow.Rule.Slice.PartMut.{set-mid-at, mid-len}

@@ -1,5 +1,4 @@
 -- By the tests as they stand.
-use mathlib.Core.Path.{_≡_, refl, sym, _∙_}
 use borrow.Author.Tests.{lt-leb, le-leb}
 use Rattle.xosera.specs.XrSpace.{within}
 use borrow.Author.Needs.{needs}
