@@ -1,5 +1,5 @@
-// The refusals of every call, tested in their order. Where a function takes `registers`, its caller has tested the registers
-// already, so that the function is short enough for the compiler to put it into every call.
+// The refusals of every call: the first that applies, in their order. Where a function takes `registers`, its caller has
+// tested the registers already, so that the function is short enough for the compiler to put it into every call.
 use xosera::QUEUED;
 use xosera::WR_XADDR;
 ghost use mathlib.Core.Path.{_≡_};
