@@ -2,7 +2,7 @@
 #
 #   make lib         prove the Rattle crates and build the library
 #   make example     draw the cross, and the cross with last spring's fault
-#   make test-c      the C tests: plain, under ASan and UBSan, under valgrind
+#   make test-c      the C tests: each header alone; all tests plain, under ASan and UBSan, under valgrind
 #   make test-rust   the library against a plain Rust model, call by call;
 #                    XOSERA_CALLS=100000000 for a long run, XOSERA_SEED=n for the same calls again
 #   make bench       words and calls a second
@@ -25,13 +25,13 @@ CXXFLAGS := -std=c++17 -O1 -gdwarf-4 $(WARN) -Iinclude
 VALGRIND := valgrind -q --error-exitcode=9 --leak-check=full --errors-for-leak-kinds=all
 SANITIZE := -fsanitize=address,undefined -fno-sanitize-recover=all
 
-HEADER    := include/xosera_model.h
+HEADER    := include/xosera_model.h $(wildcard include/xosera/*.h)
 TESTS_C   := $(wildcard tests/c/*.c)
 TESTS_CPP := $(wildcard tests/c/*.cpp)
 TESTS_H   := $(HEADER) $(wildcard tests/c/*.h)
 OBJECTS    = $(TESTS_C:tests/c/%.c=build/$(1)/%.o) $(TESTS_CPP:tests/c/%.cpp=build/$(1)/%.o)
 
-.PHONY: all lib example test test-c test-rust bench clean
+.PHONY: all lib example test test-c test-headers test-rust bench clean
 all: lib example
 
 # rt does nothing where no crate has changed since it was last proved.
@@ -54,7 +54,7 @@ test: test-c test-rust
 # Runs $(1) and prints its last line, or all that did not go well.
 run_tests = $(1) >$(2) 2>&1 || { grep -v -e ' RUN ' -e ' OK ' $(2); exit 1; }; tail -n 1 $(2)
 
-test-c: build/plain/tests build/sanitized/tests build/cross build/first_test build/calls
+test-c: test-headers build/plain/tests build/sanitized/tests build/cross build/first_test build/calls
 	@printf 'plain: '
 	@$(call run_tests,build/plain/tests,build/plain/log)
 	@printf 'AddressSanitizer and UBSan: '
@@ -66,6 +66,14 @@ test-c: build/plain/tests build/sanitized/tests build/cross build/first_test bui
 	@printf 'docs/FIRMWARE.md: '
 	@build/first_test
 	@build/calls && echo "docs/CALLS.md: the examples hold"
+
+# Each header included alone. It needs no library.
+test-headers:
+	@for header in $(HEADER:include/%=%); do \
+	    printf '#include "%s"\n' $$header | $(CC) $(CFLAGS) -fsyntax-only -x c - && \
+	    printf '#include "%s"\n' $$header | $(CXX) $(CXXFLAGS) -fsyntax-only -x c++ - || exit 1; \
+	done
+	@echo "headers: each compiles by itself as C11 and as C++17 ($(words $(HEADER)))"
 
 build/plain/tests: $(call OBJECTS,plain) $(LIB)
 	@echo "  link $@"; $(CXX) -o $@ $^ -lcmocka
