@@ -5,6 +5,7 @@ use std::collections::VecDeque;
 use crate::convert::{typed, Words, NARROW};
 use crate::pair::{Call, Lent};
 use crate::random::Random;
+use xosera::STATE_WORDS;
 
 /// The nine VRAM lengths.
 pub const VRAM_LENGTHS: [usize; 9] = [256, 512, 1024, 2048, 4096, 8192, 16384, 32768, 65536];
@@ -517,9 +518,9 @@ impl Calls {
         xosera::State::from_words(words)
     }
 
-    /// Any 75 words.
+    /// Any words.
     fn any_words(&mut self) -> Words {
-        let mut words = [0; 75];
+        let mut words = [0; STATE_WORDS];
         for word in words.iter_mut() {
             *word = self.word();
         }

@@ -1,8 +1,9 @@
-//! The state's 75 words as the plain Rust model's state, and back. Nothing here asks the library.
+//! The state's words as the plain Rust model's state, and back. Nothing here asks the library.
 
 use model::{Blit, State};
+use xosera::STATE_WORDS;
 
-pub type Words = [u16; 75];
+pub type Words = [u16; STATE_WORDS];
 
 /// The words by name, in their order, and how many each name has.
 const NAMES: [(&str, usize); 38] = [
@@ -106,7 +107,7 @@ pub fn typed(w: &Words) -> Option<State> {
 
 /// The words of the model's state.
 pub fn words(s: &State) -> Words {
-    let mut w = [0; 75];
+    let mut w = [0; STATE_WORDS];
     for (word, &byte) in w.iter_mut().zip(&s.latch) {
         *word = u16::from(byte);
     }

@@ -101,7 +101,7 @@ pub struct Engine {
     pub regs: BlitRegs,
 }
 
-/// The whole state but for the memories: 75 words, flags (0 or 1) and bytes too, and no padding.
+/// The whole state but for the memories: words, flags (0 or 1) and bytes too, and no padding.
 /// [`State::reset`] makes one; `default` is all 0.
 #[repr(C)]
 #[derive(Clone, Copy, Debug, Default, PartialEq, Eq)]

@@ -67,7 +67,7 @@ pub mod ffi {
     }
 }
 
-// SAFETY, for every call below: the state is `repr(C)`, 75 words and no padding; a slice is its pointer
+// SAFETY, for every call below: the state is `repr(C)`, words and no padding; a slice is its pointer
 // and its length in words. All are lent for the call alone and, where they are `&mut`, to nobody else,
 // so that none overlaps another that is written. The library takes slices of any length and any words
 // as state.
