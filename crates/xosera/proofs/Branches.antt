@@ -1,11 +1,11 @@
 -- What a value chosen by a test is, and what a test of several parts says.
-use mathlib.Core.Path.{_≡_, refl}
-use mathlib.Core.Bool.{Bool, true, false, cond, not, _||_, and-eq-true-iff, false≢true}
-use mathlib.Core.List.{List, [], _∷_}
+use mathlib.Core.Path.{_≡_, refl, sym, _∙_}
+use mathlib.Core.Bool.{Bool, true, false, cond, not, _&&_, _||_, and-eq-true-iff, true≢false, false≢true}
+use mathlib.Core.List.{List}
 use mathlib.Core.Logic.{_↔_}
-use Prim.Native.Nat.{ℕ, zero, suc, _≤_}
-use lib.Dec.{eqb, leb}
-use lib.ListN.{length, getD}
+use Prim.Native.Nat.{ℕ, _≤_}
+use lib.Dec.{T, eqb, leb}
+use lib.ListN.{length}
 use borrow.Author.Tests.{eqb-true, eq-eqb, leb-true, le-leb}
 
 module _ {ℓ} {A : Type ℓ} where
@@ -29,17 +29,6 @@ module _ {ℓ} {A : Type ℓ} where
   cond-same true x = refl
   cond-same false x = refl
 
--- What holds of each entry of a table, and of the value outside it, holds wherever one looks.
-infixr 20 _also_
-pub data Every {A : Type 0} (P : A → Type 0) : List A → Type 0 where
-  none : Every P []
-  _also_ : {x : A} {xs : List A} → P x → Every P xs → Every P (x ∷ xs)
-
-pub getD-every : {A : Type 0} (P : A → Type 0) {l : List A} (i : ℕ) (d : A) → Every P l → P d → P (getD l i d)
-getD-every P i d none else = else
-getD-every P zero d (h also hs) else = h
-getD-every P (suc i) d (h also hs) else = getD-every P i d hs else
-
 pub length-cond {ℓ} : {A : Type ℓ} (b : Bool) (x y : List A) → length (cond b x y) ≡ cond b (length x) (length y)
 length-cond true x y = refl
 length-cond false x y = refl
@@ -56,3 +45,24 @@ implies-iff false b = (λ _ h. absurd (false≢true h), λ _. refl)
 
 -- What a test says, part by part.
 pub ruleset parts = (and-eq-true-iff, implies-iff, eqb-iff, leb-iff)
+
+-- A choice of two tests fails when both do.
+pub or-eq-false-iff : (x y : Bool) → (x || y ≡ false) ↔ ((x ≡ false) × (y ≡ false))
+or-eq-false-iff true y = (λ h. absurd (true≢false h), λ k. k .0)
+or-eq-false-iff false y = (λ h. (refl, h), λ k. k .1)
+
+-- Two tests that pass, as one; and of one that computes, as two.
+pub and-both : {x y : Bool} → x ≡ true → y ≡ true → x && y ≡ true
+and-both p q = rw (p, q)
+
+pub both : (a b : Bool) → T (a && b) → T a × T b
+both true b t = (tt, t)
+both false b t = absurd t
+
+-- A test cannot both pass and fail, and one that cannot pass fails.
+pub clash : {b : Bool} → b ≡ true → b ≡ false → ⊥
+clash p q = true≢false (sym p ∙ q)
+
+pub not-passed : (b : Bool) → (b ≡ true → ⊥) → b ≡ false
+not-passed true h = absurd (h refl)
+not-passed false h = refl

@@ -2,7 +2,7 @@
 use mathlib.Core.Path.{_≡_, refl, sym, ap, _∙_}
 use mathlib.Core.Bool.{Bool, true, false, cond}
 use mathlib.Core.List.{List}
-use Prim.Native.Nat.{ℕ, suc, _+_, _*_, _-_, _≤_, _<_}
+use Prim.Native.Nat.{ℕ, suc, _+_, _*_, _-_, _<_}
 use native.Mathlib.Omega.{arith}
 use native.Mathlib.Nat.{sub-self, sub-zero, zero-mul}
 use lib.ListN.{length, length-set}
@@ -10,29 +10,23 @@ use borrow.Author.Tests.{eqb-true, eqb-false}
 use Rattle.xosera.specs.declared.BlitRegs.{BlitRegs}
 use Rattle.xosera.specs.declared.Engine.{Engine}
 use Rattle.xosera.specs.State.{isSet}
-use Rattle.xosera.specs.Memories.{Store, stored, word}
-use Rattle.xosera.specs.Blitter.{noRegs, idle, launched, lastWord, lastStep, nextKept, next, drawing, drawn, succeeding, blitWords, engineLeft}
-use Rattle.xosera.specs.Refusals.{runningInRange, isNoRegs, idleInRange, engineInRange}
-use Rattle.xosera.proofs.Branches.{cond-yes, cond-no, parts}
+use Rattle.xosera.specs.Memories.{Store, stored}
+use Rattle.xosera.specs.Blitter.{noRegs, idle, launched, fetched, lastWord, lastStep, nextKept, next, drawing, drawn, succeeding, blitWords, engineLeft}
+use Rattle.xosera.specs.Ranges.{startsEmpty, Running, runningInRange, isNoRegs, idleInRange, engineInRange}
+use Rattle.xosera.proofs.Branches.{cond-yes, cond-no, cond-either, parts}
 use Rattle.xosera.proofs.MaskLaws.{stored-either}
 
 -- What the range says of a running engine.
-pub record Running (e : Engine) : Type 0 where
-  pub line-within : e .line ≤ e .regs .lines
-  pub word-within : e .word ≤ e .regs .words
-  pub lines-within : e .regs .lines ≤ 32767
-  pub starts-empty : e .word ≡ 0 → e .kept ≡ 0
-
-pub running-facts : (e : Engine) → isSet (e .running) ≡ true → engineInRange e ≡ true → Running e
-unfolding engineInRange runningInRange
-running-facts e r h =
+pub in-range-running : (e : Engine) → isSet (e .running) ≡ true → engineInRange e ≡ true → Running e
+unfolding engineInRange runningInRange startsEmpty
+in-range-running e r h =
     let k = simp parts at (sym (cond-yes (runningInRange e) (idleInRange e) r) ∙ h) in
-    record { line-within = k .0 .0 .0; word-within = k .0 .0 .1; lines-within = k .0 .1; starts-empty = k .1 }
+    record { runs = r; line-within = k .0 .0 .0; word-within = k .0 .0 .1; lines-within = k .0 .1; starts-empty = k .1 }
 
-pub running-in-range : (e : Engine) → isSet (e .running) ≡ true → Running e → engineInRange e ≡ true
-unfolding engineInRange runningInRange
-running-in-range e r f =
-    cond-yes (runningInRange e) (idleInRange e) r ∙ simp parts (((f .line-within, f .word-within), f .lines-within), f .starts-empty)
+pub running-in-range : (e : Engine) → Running e → engineInRange e ≡ true
+unfolding engineInRange runningInRange startsEmpty
+running-in-range e f =
+    cond-yes (runningInRange e) (idleInRange e) (f .runs) ∙ simp parts (((f .line-within, f .word-within), f .lines-within), f .starts-empty)
 
 regs-none : (r : BlitRegs) → isNoRegs r ≡ true → r ≡ noRegs
 unfolding isNoRegs
@@ -59,93 +53,102 @@ idle-is e r h =
 pub idle-flag : (e : Engine) → isSet (e .running) ≡ false → engineInRange e ≡ true → e .running ≡ 0
 idle-flag e r h = ap (λ (x : Engine). x .running) (idle-is e r h)
 
--- A start.
-launched-running : (r : BlitRegs) → Running (launched r)
+pub idle-in-range : engineInRange idle ≡ true
+unfolding engineInRange idleInRange isNoRegs
+idle-in-range = refl
+
+-- A start, and what follows a blit's end.
+pub launched-running : (r : BlitRegs) → Running (launched r)
 unfolding launched
-launched-running r = record { line-within = omega arith; word-within = omega arith; lines-within = omega arith; starts-empty = λ _. refl }
+launched-running r = record { runs = refl; line-within = omega arith; word-within = omega arith; lines-within = omega arith; starts-empty = λ _. refl }
 
 pub launched-in-range : (r : BlitRegs) → engineInRange (launched r) ≡ true
-unfolding launched
-launched-in-range r = running-in-range (launched r) refl (launched-running r)
+launched-in-range r = running-in-range (launched r) (launched-running r)
 
 pub launched-left : (r : BlitRegs) → engineLeft (launched r) ≡ blitWords r
 unfolding launched engineLeft blitWords
 launched-left r = simp sub-zero (omega arith)
 
--- The last word.
-left-running : (e : Engine) → isSet (e .running) ≡ true → engineLeft e ≡ (e .regs .words + 1 - e .word) + (e .regs .lines - e .line) * (e .regs .words + 1)
-unfolding engineLeft
-left-running e r = cond-yes _ _ r
-
-last-count : (w l : ℕ) → (w + 1 - w) + (l - l) * (w + 1) ≡ 1
-last-count w l = simp (sub-self, zero-mul) (omega arith)
-
-pub last-left : (e : Engine) → isSet (e .running) ≡ true → lastStep e ≡ true → engineLeft e ≡ 1
-unfolding lastStep lastWord
-last-left e r h = let k = simp parts at h in left-running e r ∙ rw (k .0, k .1) (last-count (e .regs .words) (e .regs .lines))
-
--- Any other word: the next line begins, or the line goes on.
-line-count : (w l n : ℕ) → l < n → (w + 1 - w) + (n - l) * (w + 1) ≡ suc ((w + 1 - 0) + (n - (l + 1)) * (w + 1))
-line-count w l n h = let d : n - l ≡ n - (l + 1) + 1 = omega arith in rw d (omega arith)
-
-module _ (e : Engine) (v : List ℕ) (f : Running e) (h : lastStep e ≡ false) where
-  word-last : lastWord e ≡ true → e .word ≡ e .regs .words
-  unfolding lastWord
-  word-last w = eqb-true (e .word) (e .regs .words) w
-
-  line-more : lastWord e ≡ true → e .line < e .regs .lines
-  unfolding lastStep
-  line-more w = omega (arith, f .line-within, eqb-false (e .line) (e .regs .lines) (rw w at h))
-
-  word-more : lastWord e ≡ false → e .word < e .regs .words
-  unfolding lastWord
-  word-more w = omega (arith, f .word-within, eqb-false (e .word) (e .regs .words) w)
-
-  next-running : Running (next e v)
-  unfolding next nextKept
-  next-running = go (lastWord e) refl
-    where
-      go : (b : Bool) → lastWord e ≡ b → Running (next e v)
-      go true w = rw w (record {
-        line-within = omega (arith, line-more w);
-        word-within = omega arith;
-        lines-within = f .lines-within;
-        starts-empty = λ _. refl;
-      })
-      go false w = rw w (record {
-        line-within = f .line-within;
-        word-within = omega (arith, word-more w);
-        lines-within = f .lines-within;
-        starts-empty = λ z. absurd (omega arith);
-      })
-
-  next-counts : isSet (e .running) ≡ true → engineLeft e ≡ suc (engineLeft (next e v))
-  unfolding next engineLeft
-  next-counts r = go (lastWord e) refl
-    where
-      go : (b : Bool) → lastWord e ≡ b → engineLeft e ≡ suc (engineLeft (next e v))
-      go true w = left-running e r ∙ rw (w, word-last w) (line-count (e .regs .words) (e .line) (e .regs .lines) (line-more w))
-      go false w = let m = word-more w in left-running e r ∙ rw w (omega arith)
-
-pub next-in-range : (e : Engine) (v : List ℕ) → isSet (e .running) ≡ true → engineInRange e ≡ true → lastStep e ≡ false → engineInRange (next e v) ≡ true
-unfolding next
-next-in-range e v r i h = running-in-range (next e v) refl (next-running e v (running-facts e r i) h)
-
-pub next-left : (e : Engine) (v : List ℕ) → isSet (e .running) ≡ true → engineInRange e ≡ true → lastStep e ≡ false → engineLeft e ≡ suc (engineLeft (next e v))
-next-left e v r i h = next-counts e v (running-facts e r i) h r
-
--- An idle engine has no word left, a running one has some, and the one after a blit has those of the queued blit.
-pub idle-left : (e : Engine) → isSet (e .running) ≡ false → engineLeft e ≡ 0
-unfolding engineLeft
-idle-left e r = cond-no _ _ r
-
-pub running-left : (e : Engine) → isSet (e .running) ≡ true → engineInRange e ≡ true → 0 < engineLeft e
-running-left e r h = let w = running-facts e r h .word-within in rw (left-running e r) (omega arith)
+pub succeeding-in-range : (q : Bool) (r : BlitRegs) → engineInRange (succeeding q r) ≡ true
+unfolding succeeding
+succeeding-in-range q r = cond-either (λ (e : Engine). engineInRange e ≡ true) q (launched r) idle (launched-in-range r) idle-in-range
 
 pub succeeding-left : (q : Bool) (r : BlitRegs) → engineLeft (succeeding q r) ≡ cond q (blitWords r) 0
 unfolding succeeding engineLeft
 succeeding-left true r = launched-left r
 succeeding-left false r = refl
+
+-- An idle engine has no word left, a running one has some.
+pub idle-left : (e : Engine) → isSet (e .running) ≡ false → engineLeft e ≡ 0
+unfolding engineLeft
+idle-left e r = cond-no _ _ r
+
+module _ (e : Engine) (f : Running e) where
+  left-counts : engineLeft e ≡ (e .regs .words + 1 - e .word) + (e .regs .lines - e .line) * (e .regs .words + 1)
+  unfolding engineLeft
+  left-counts = cond-yes _ _ (f .runs)
+
+  pub running-left : 0 < engineLeft e
+  running-left = let w = f .word-within in rw left-counts (omega arith)
+
+  -- Inside a line the word count can go up, and after a line that is not the last the line count.
+  pub word-more : lastWord e ≡ false → e .word < e .regs .words
+  unfolding lastWord
+  word-more w = omega (arith, f .word-within, eqb-false (e .word) (e .regs .words) w)
+
+  pub line-more : lastWord e ≡ true → lastStep e ≡ false → e .line < e .regs .lines
+  unfolding lastStep
+  line-more w h = omega (arith, f .line-within, eqb-false (e .line) (e .regs .lines) (rw w at h))
+
+-- A word that is not its line's last is not the blit's last.
+pub inside-not-last : (e : Engine) → lastWord e ≡ false → lastStep e ≡ false
+unfolding lastStep
+inside-not-last e h = rw h
+
+-- The last word.
+last-count : (w l : ℕ) → (w + 1 - w) + (l - l) * (w + 1) ≡ 1
+last-count w l = simp (sub-self, zero-mul) (omega arith)
+
+pub last-left : (e : Engine) → Running e → lastStep e ≡ true → engineLeft e ≡ 1
+unfolding lastStep lastWord
+last-left e f h = let k = simp parts at h in left-counts e f ∙ rw (k .0, k .1) (last-count (e .regs .words) (e .regs .lines))
+
+-- Any other word: the next line begins, or the line goes on.
+line-count : (w l n : ℕ) → l < n → (w + 1 - w) + (n - l) * (w + 1) ≡ suc ((w + 1 - 0) + (n - (l + 1)) * (w + 1))
+line-count w l n h = let d : n - l ≡ n - (l + 1) + 1 = omega arith in rw d (omega arith)
+
+module _ (e : Engine) (w : ℕ) (f : Running e) (h : lastStep e ≡ false) where
+  word-last : lastWord e ≡ true → e .word ≡ e .regs .words
+  unfolding lastWord
+  word-last l = eqb-true (e .word) (e .regs .words) l
+
+  pub next-running : Running (next e w)
+  unfolding next nextKept
+  next-running = go (lastWord e) refl
+    where
+      go : (b : Bool) → lastWord e ≡ b → Running (next e w)
+      go true l = rw l (record {
+        runs = refl;
+        line-within = omega (arith, line-more e f l h);
+        word-within = omega arith;
+        lines-within = f .lines-within;
+        starts-empty = λ _. refl;
+      })
+      go false l = rw l (record {
+        runs = refl;
+        line-within = f .line-within;
+        word-within = omega (arith, word-more e f l);
+        lines-within = f .lines-within;
+        starts-empty = λ z. absurd (omega arith);
+      })
+
+  pub next-left : engineLeft e ≡ suc (engineLeft (next e w))
+  unfolding next engineLeft
+  next-left = go (lastWord e) refl
+    where
+      go : (b : Bool) → lastWord e ≡ b → engineLeft e ≡ suc (engineLeft (next e w))
+      go true l = left-counts e f ∙ rw (l, word-last l) (line-count (e .regs .words) (e .line) (e .regs .lines) (line-more e f l h))
+      go false l = let m = word-more e f l in left-counts e f ∙ rw l (omega arith)
 
 -- What is drawn keeps its length.
 pub stored-length : (s : Store) (v : List ℕ) → length (stored s v) ≡ length v
@@ -153,4 +156,4 @@ stored-length s v = stored-either (λ (l : List ℕ). length l ≡ length v) s v
 
 pub drawn-length : (e : Engine) (v : List ℕ) → length (drawn e v) ≡ length v
 unfolding drawn
-drawn-length e v = stored-length (drawing e v) v
+drawn-length e v = stored-length (drawing e (fetched e v)) v

@@ -14,7 +14,7 @@ use Rattle.xosera.specs.Memories.{Store, stored, place, word}
 use Rattle.xosera.proofs.Branches.{cond-yes, cond-no, cond-either}
 
 -- A word is the sum of its nibbles.
-nibbles-sum : (w : ℕ) → w < 65536 → nibble 3 w * 16 ^ 3 + nibble 2 w * 16 ^ 2 + nibble 1 w * 16 ^ 1 + nibble 0 w * 16 ^ 0 ≡ w
+pub nibbles-sum : (w : ℕ) → w < 65536 → nibble 3 w * 16 ^ 3 + nibble 2 w * 16 ^ 2 + nibble 1 w * 16 ^ 1 + nibble 0 w * 16 ^ 0 ≡ w
 unfolding nibble
 nibbles-sum w h =
     let top : w / 4096 < 16 = omega arith in

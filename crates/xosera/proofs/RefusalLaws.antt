@@ -1,15 +1,17 @@
--- None of the tests applies to an event that is not refused: its state is in range.
-use mathlib.Core.Path.{_≡_, refl}
-use mathlib.Core.Bool.{Bool, true, false, _&&_}
+-- None of the tests applies to an event that is not refused: its state is in range, and its memories are as long as they should be.
+use mathlib.Core.Path.{_≡_, refl, ap, subst}
+use mathlib.Core.Bool.{Bool, true, false, not, _&&_}
 use mathlib.Core.List.{List, [], _∷_}
 use Prim.Native.Nat.{ℕ, zero, suc, _<_}
 use native.Mathlib.Omega.{arith}
 use lib.Dec.{ltb}
-use lib.ListN.{getD}
-use borrow.Author.Tests.{not-false}
+use lib.ListN.{length, getD}
+use borrow.Author.Tests.{not-false, eqb-true, eq-eqb}
+use Rattle.xosera.specs.Memories.{isXrLength}
 use Rattle.xosera.specs.Adapter.{Adapter, stateOf}
 use Rattle.xosera.specs.Events.{Event, write, read, tick, frameEnd, line, call, step, run}
-use Rattle.xosera.specs.Refusals.{inRange, badState, Test, _when_, tests, first, refusal}
+use Rattle.xosera.specs.Ranges.{inRange}
+use Rattle.xosera.specs.Refusals.{badVram, badXr, badState, Fit, Test, _when_, lentTests, tests, first, refusal}
 use Rattle.xosera.proofs.Branches.{parts}
 
 -- No test has the number 0, which means done.
@@ -50,13 +52,34 @@ pub accepted-none : (a : Adapter) (e : Event) (i : ℕ) → refusal a e ≡ 0 �
 unfolding refusal
 accepted-none a e i h = none-applies (tests a e) i (tests-numbered a e) h
 
+-- What is fit to go on meets none of the refusals 1 to 3.
+module _ (a : Adapter) (fit : Fit a) where
+  pub fit-vram : badVram a ≡ false
+  unfolding badVram
+  fit-vram = ap not (fit .vram)
+
+  pub fit-xr : badXr a ≡ false
+  unfolding badXr isXrLength
+  fit-xr = ap not (eq-eqb (length (a .side .xr)) 6656 (fit .xr))
+
+  pub fit-state : badState a ≡ false
+  unfolding badState
+  fit-state = ap not (fit .state)
+
+-- What tests both memories and the state and is not refused is fit to go on.
+pub lent-fit : (a : Adapter) (e : Event) {more : List Test} → tests a e ≡ lentTests a more → refusal a e ≡ 0 → Fit a
+unfolding badVram badXr badState isXrLength
+lent-fit a e {more} t h =
+    let none : (i : ℕ) → applied (lentTests a more) i ≡ false = λ i. subst (λ (l : List Test). applied l i ≡ false) t (accepted-none a e i h) in
+    record { vram = not-false _ (none 0); xr = eqb-true (length (a .side .xr)) 6656 (not-false _ (none 1)); state = not-false _ (none 2) }
+
 -- Refusal 3 can apply to every event.
 pub accepted-in-range : (a : Adapter) (e : Event) → refusal a e ≡ 0 → inRange (stateOf a) ≡ true
 unfolding tests badState
-accepted-in-range a (call (write r odd b)) h = not-false (inRange (stateOf a)) (accepted-none a (call (write r odd b)) 2 h)
-accepted-in-range a (call (read r odd)) h = not-false (inRange (stateOf a)) (accepted-none a (call (read r odd)) 2 h)
-accepted-in-range a (call tick) h = not-false (inRange (stateOf a)) (accepted-none a (call tick) 0 h)
-accepted-in-range a (call frameEnd) h = not-false (inRange (stateOf a)) (accepted-none a (call frameEnd) 0 h)
-accepted-in-range a (call line) h = not-false (inRange (stateOf a)) (accepted-none a (call line) 0 h)
-accepted-in-range a step h = not-false (inRange (stateOf a)) (accepted-none a step 2 h)
-accepted-in-range a (run n) h = not-false (inRange (stateOf a)) (accepted-none a (run n) 2 h)
+accepted-in-range a (call (write r odd b)) h = lent-fit a (call (write r odd b)) refl h .state
+accepted-in-range a (call (read r odd)) h = lent-fit a (call (read r odd)) refl h .state
+accepted-in-range a (call tick) h = not-false _ (accepted-none a (call tick) 0 h)
+accepted-in-range a (call frameEnd) h = not-false _ (accepted-none a (call frameEnd) 0 h)
+accepted-in-range a (call line) h = not-false _ (accepted-none a (call line) 0 h)
+accepted-in-range a step h = lent-fit a step refl h .state
+accepted-in-range a (run n) h = lent-fit a (run n) refl h .state

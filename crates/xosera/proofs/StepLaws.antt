@@ -9,18 +9,21 @@ use Rattle.xosera.specs.declared.BlitRegs.{BlitRegs}
 use Rattle.xosera.specs.declared.Engine.{Engine}
 use Rattle.xosera.specs.State.{isSet}
 use Rattle.xosera.specs.Adapter.{Adapter, stateOf}
+use Rattle.xosera.specs.Blitter.{launched, startedEngine, blitStarted, fetched, lastStep, stepped, steps, blitWords, wordsLeft}
+use Rattle.xosera.specs.Plan.{carriedOut, perform}
 use Rattle.xosera.specs.XrSpace.{xrWrite}
 use Rattle.xosera.specs.HostBytes.{writeByte, writeWord}
-use Rattle.xosera.specs.Blitter.{idle, launched, lastStep, stepped, steps, blitWords, wordsLeft}
 use Rattle.xosera.specs.Events.{write, step, run}
-use Rattle.xosera.specs.Refusals.{inRange, refusal}
-use Rattle.xosera.specs.Calls.{actOf, startedEngine, perform, done, after, given}
+use Rattle.xosera.specs.Ranges.{Running, inRange}
+use Rattle.xosera.specs.Refusals.{refusal}
+use Rattle.xosera.specs.Calls.{actOf, done, after, given}
 use Rattle.xosera.specs.Sequences.{startWith, Starts, wordsOf}
-use Rattle.xosera.proofs.Branches.{cond-yes, cond-no}
-use Rattle.xosera.proofs.EngineLaws.{idle-flag, launched-left, last-left, next-left, idle-left, running-left, succeeding-left}
+use Rattle.xosera.proofs.Branches.{cond-yes, cond-no, not-passed}
+use Rattle.xosera.proofs.EngineLaws.{launched-left, last-left, next-left, idle-left, running-left, succeeding-left}
 use Rattle.xosera.proofs.StepCases.{stepped-idle, stepped-last, stepped-on}
 use Rattle.xosera.proofs.RefusalLaws.{accepted-in-range}
-use Rattle.xosera.proofs.RangeLaws.{Ranged, range-facts, stepped-ranged, steps-ranged, stepped-in-range, after-in-range}
+use Rattle.xosera.proofs.RangeLaws.{in-range-unqueued, in-range-runs, stepped-in-range, steps-in-range}
+use Rattle.xosera.proofs.PlanLaws.{after-in-range}
 
 -- Steps on an idle engine.
 pub steps-idle : (n : ℕ) (a : Adapter) → isSet (a .engine .running) ≡ false → steps n a ≡ a
@@ -34,101 +37,87 @@ steps-add zero n a = rw zero-add
 steps-add (suc m) n a = rw suc-add (steps-add m n (stepped a))
 
 -- Words left: none when idle, some while running, and one less after each step.
-module _ (a : Adapter) (f : Ranged a) where
-  not-queued : isSet (a .engine .running) ≡ false → a .queued ≡ 0
-  not-queued r = let z = idle-flag (a .engine) r (f .engine) in omega (arith, f .queue)
-
-  none-left : isSet (a .engine .running) ≡ false → wordsLeft a ≡ 0
+module _ (a : Adapter) (h : inRange (stateOf a) ≡ true) where
+  pub idle-none-left : isSet (a .engine .running) ≡ false → wordsLeft a ≡ 0
   unfolding wordsLeft
-  none-left r = rw (idle-left (a .engine) r, not-queued r)
+  idle-none-left r = rw (idle-left (a .engine) r, in-range-unqueued (stateOf a) h r)
 
-  some-left : isSet (a .engine .running) ≡ true → 0 < wordsLeft a
+  pub running-some-left : isSet (a .engine .running) ≡ true → 0 < wordsLeft a
   unfolding wordsLeft
-  some-left r = omega (arith, running-left (a .engine) r (f .engine))
+  running-some-left r = omega (arith, running-left (a .engine) (in-range-runs (stateOf a) h r))
 
   running-while-left : 0 < wordsLeft a → isSet (a .engine .running) ≡ true
   running-while-left l = go (isSet (a .engine .running)) refl
     where
       go : (b : Bool) → isSet (a .engine .running) ≡ b → isSet (a .engine .running) ≡ true
       go true r = r
-      go false r = absurd (omega (arith, none-left r))
+      go false r = absurd (omega (arith, idle-none-left r))
 
   idle-once-none-left : wordsLeft a ≡ 0 → isSet (a .engine .running) ≡ false
-  idle-once-none-left l = go (isSet (a .engine .running)) refl
-    where
-      go : (b : Bool) → isSet (a .engine .running) ≡ b → isSet (a .engine .running) ≡ false
-      go true r = absurd (omega (arith, some-left r))
-      go false r = r
+  idle-once-none-left l = not-passed (isSet (a .engine .running)) (λ r. absurd (omega (arith, running-some-left r)))
 
-  one-less : isSet (a .engine .running) ≡ true → wordsLeft a ≡ suc (wordsLeft (stepped a))
+  pub running-stepped-left : isSet (a .engine .running) ≡ true → wordsLeft a ≡ suc (wordsLeft (stepped a))
   unfolding wordsLeft
-  one-less r = go (lastStep (a .engine)) refl
+  running-stepped-left r = go (lastStep (a .engine)) refl
     where
-      go : (l : Bool) → lastStep (a .engine) ≡ l → wordsLeft a ≡ suc (wordsLeft (stepped a))
-      go true l = rw (stepped-last a r l, last-left (a .engine) r l, succeeding-left) (omega arith)
-      go false l = rw (stepped-on a r l, next-left (a .engine) (a .vram) r (f .engine) l) (omega arith)
+      f : Running (a .engine)
+      f = in-range-runs (stateOf a) h r
 
-  stepped-less : wordsLeft (stepped a) ≡ wordsLeft a - 1
-  stepped-less = go (isSet (a .engine .running)) refl
+      go : (l : Bool) → lastStep (a .engine) ≡ l → wordsLeft a ≡ suc (wordsLeft (stepped a))
+      go true l = rw (stepped-last a r l, last-left (a .engine) f l, succeeding-left) (omega arith)
+      go false l = rw (stepped-on a r l, next-left (a .engine) (fetched (a .engine) (a .vram)) f l) (omega arith)
+
+  stepped-left : wordsLeft (stepped a) ≡ wordsLeft a - 1
+  stepped-left = go (isSet (a .engine .running)) refl
     where
       go : (b : Bool) → isSet (a .engine .running) ≡ b → wordsLeft (stepped a) ≡ wordsLeft a - 1
-      go true r = omega (arith, one-less r)
-      go false r = rw (stepped-idle a r) (omega (arith, none-left r))
-
-steps-less : (n : ℕ) (a : Adapter) → Ranged a → wordsLeft (steps n a) ≡ wordsLeft a - n
-unfolding steps
-steps-less zero a f = omega arith
-steps-less (suc n) a f = steps-less n (stepped a) (stepped-ranged a f) ∙ rw (stepped-less a f) (omega arith)
-
-module _ (a : Adapter) (h : inRange (stateOf a) ≡ true) where
-  pub idle-none-left : isSet (a .engine .running) ≡ false → wordsLeft a ≡ 0
-  idle-none-left r = none-left a (range-facts a h) r
-
-  pub running-some-left : isSet (a .engine .running) ≡ true → 0 < wordsLeft a
-  running-some-left r = some-left a (range-facts a h) r
-
-  pub stepped-left : isSet (a .engine .running) ≡ true → wordsLeft a ≡ suc (wordsLeft (stepped a))
-  stepped-left r = one-less a (range-facts a h) r
+      go true r = omega (arith, running-stepped-left r)
+      go false r = rw (stepped-idle a r) (omega (arith, idle-none-left r))
 
 pub steps-left : (n : ℕ) (a : Adapter) → inRange (stateOf a) ≡ true → wordsLeft (steps n a) ≡ wordsLeft a - n
-steps-left n a h = steps-less n a (range-facts a h)
+unfolding steps
+steps-left zero a h = omega arith
+steps-left (suc n) a h = steps-left n (stepped a) (stepped-in-range a h) ∙ rw (stepped-left a h) (omega arith)
 
 -- The engine runs as long as words are left, and then no more.
 module _ (n : ℕ) (a : Adapter) (h : inRange (stateOf a) ≡ true) where
   pub over-after : wordsLeft a ≤ n → isSet (steps n a .engine .running) ≡ false
-  over-after l = idle-once-none-left (steps n a) (steps-ranged n a (range-facts a h)) (omega (arith, steps-left n a h))
+  over-after l = idle-once-none-left (steps n a) (steps-in-range n a h) (omega (arith, steps-left n a h))
 
   pub not-before : n < wordsLeft a → isSet (steps n a .engine .running) ≡ true
-  not-before l = running-while-left (steps n a) (steps-ranged n a (range-facts a h)) (omega (arith, steps-left n a h))
+  not-before l = running-while-left (steps n a) (steps-in-range n a h) (omega (arith, steps-left n a h))
 
 -- What n single steps count.
-unfoldable pub counted : ℕ → Adapter → ℕ
-counted zero a = 0
-counted (suc n) a = given a step + counted n (stepped a)
+unfoldable pub stepsCount : ℕ → Adapter → ℕ
+stepsCount zero a = 0
+stepsCount (suc n) a = given a step + stepsCount n (stepped a)
 
-pub run-counts : (n : ℕ) (a : Adapter) → inRange (stateOf a) ≡ true → counted n a ≡ given a (run n)
-unfolding counted given
+pub run-counts : (n : ℕ) (a : Adapter) → inRange (stateOf a) ≡ true → stepsCount n a ≡ given a (run n)
+unfolding stepsCount given
 run-counts zero a h = omega arith
 run-counts (suc n) a h =
-    ap (λ (k : ℕ). min 1 (wordsLeft a) + k) (run-counts n (stepped a) (stepped-in-range a h)) ∙ rw (stepped-less a (range-facts a h)) (omega arith)
+    ap (λ (k : ℕ). min 1 (wordsLeft a) + k) (run-counts n (stepped a) (stepped-in-range a h)) ∙ rw (stepped-left a h) (omega arith)
 
 -- A start launches the registers as they then stand, and leaves no blit queued.
 module _ (a : Adapter) (b : ℕ) (h : Starts a b) where
-  started : after a (startWith b) ≡ perform (actOf (a .side) (write 5 true b)) a
+  start-performed : after a (startWith b) ≡ perform (actOf (a .side) (write 5 true b)) a
   unfolding after done
-  started = cond-yes _ a (eq-eqb (refusal a (startWith b)) 0 (h .accepted))
+  start-performed = cond-yes _ a (eq-eqb (refusal a (startWith b)) 0 (h .accepted))
 
   at-words : actOf (a .side) (write 5 true b) .start ≡ true
   unfolding actOf writeByte writeWord xrWrite
   at-words = eq-eqb (a .side .host .xr .wrxaddr .0) 0x49 (h .words)
 
-  pub started-engine : after a (startWith b) .engine ≡ launched (after a (startWith b) .side .blit)
-  unfolding perform startedEngine actOf writeByte writeWord xrWrite
-  started-engine = rw started (cond-yes _ _ at-words ∙ cond-no _ _ (ne-eqb (a .engine .running) 1 (λ z. absurd (omega (arith, h .idle)))))
-
-  pub started-queue-free : after a (startWith b) .queued ≡ 0
+  started-is : after a (startWith b) ≡ blitStarted (carriedOut (actOf (a .side) (write 5 true b)) a)
   unfolding perform
-  started-queue-free = rw started (cond-yes _ _ at-words ∙ h .idle)
+  started-is = start-performed ∙ cond-yes _ _ at-words
+
+  pub started-engine : after a (startWith b) .engine ≡ launched (after a (startWith b) .side .blit)
+  unfolding startedEngine
+  started-engine = rw started-is (cond-no _ _ (ne-eqb (a .engine .running) 1 (λ z. absurd (omega (arith, h .idle)))))
+
+  pub started-unqueued : after a (startWith b) .queued ≡ 0
+  started-unqueued = rw started-is (h .idle)
 
   pub started-in-range : inRange (stateOf (after a (startWith b))) ≡ true
   started-in-range = after-in-range a (startWith b) (accepted-in-range a (startWith b) (h .accepted))
@@ -141,7 +130,7 @@ launched-words r = rw mod-mod
 pub record EndsOnLastStep (s : Adapter) : Type 0 where
   pub starts : isSet (s .engine .running) ≡ true
   pub alone : s .queued ≡ 0
-  pub left : wordsLeft s ≡ wordsOf s
+  pub all-left : wordsLeft s ≡ wordsOf s
   pub runs : (n : ℕ) → n < wordsOf s → isSet (steps n s .engine .running) ≡ true
   pub over : (n : ℕ) → wordsOf s ≤ n → isSet (steps n s .engine .running) ≡ false
 
@@ -154,11 +143,11 @@ unfolding launched
 blit-ends-on-its-last-step a b h =
     let s : Adapter = after a (startWith b) in
     let e : s .engine ≡ launched (s .side .blit) = started-engine a b h in
-    let l : wordsLeft s ≡ wordsOf s = launched-left-all s (s .side .blit) e (started-queue-free a b h) in
+    let l : wordsLeft s ≡ wordsOf s = launched-left-all s (s .side .blit) e (started-unqueued a b h) in
     record {
       starts = ap (λ (x : Engine). isSet (x .running)) e;
-      alone = started-queue-free a b h;
-      left = l;
+      alone = started-unqueued a b h;
+      all-left = l;
       runs = λ n k. not-before n s (started-in-range a b h) (omega arith);
       over = λ n k. over-after n s (started-in-range a b h) (omega arith);
     }

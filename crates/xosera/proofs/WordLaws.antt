@@ -1,8 +1,8 @@
 -- The words of a state: what they stand for after stores, and that no two lists of words stand for the same state.
-use mathlib.Core.Path.{_≡_, refl, sym, ap, ap₂, subst, _∙_}
-use mathlib.Core.Bool.{Bool, true, false, cond, _&&_, true≢false}
+use mathlib.Core.Path.{_≡_, refl, sym, ap, ap₂, _∙_}
+use mathlib.Core.Bool.{Bool, true, cond, _&&_, and-eq-true-iff}
 use mathlib.Core.List.{List, [], _∷_, _++_}
-use Prim.Native.Nat.{ℕ, zero, suc, _+_, _≤_, _<_}
+use Prim.Native.Nat.{ℕ, zero, suc, _+_, _<_}
 use native.Mathlib.Omega.{arith}
 use native.Mathlib.Decide.{ℕ-discrete}
 use native.Mathlib.Nat.{add-zero}
@@ -60,12 +60,8 @@ allPlaced (p ∷ more) = ltb (p .place) stateWords && allPlaced more
 hold-all : (ws : List ℕ) (word : ℕ → ℕ) (ps : List Stored) → Holds ws word → allPlaced ps ≡ true → Holds (setAll ws ps) (putAll ps word)
 hold-all ws word [] h l = h
 hold-all ws word (p ∷ more) h l =
-    let k = both (ltb (p .place) stateWords) (allPlaced more) l in
+    let k = simp and-eq-true-iff at l in
     hold-all _ _ more (stored-at h (p .place) (p .value) (k .0)) (k .1)
-  where
-    both : (a b : Bool) → (a && b) ≡ true → (a ≡ true) × (b ≡ true)
-    both true b e = (refl, e)
-    both false b e = absurd (true≢false (sym e))
 
 module _ (ws : List ℕ) (size : length ws ≡ stateWords) (ps : List Stored) (placed : allPlaced ps ≡ true) where
   -- The state that the words stand for after stores to them.
@@ -76,27 +72,6 @@ module _ (ws : List ℕ) (size : length ws ≡ stateWords) (ps : List Stored) (p
   -- The adapter that they stand for, with both memories.
   pub stored-adapter : (v x : List ℕ) → adapterAt (setAll ws ps) v x ≡ adapter (stateBy (putAll ps (wordAt ws))) v x
   stored-adapter v x = ap (λ (s : State). adapter s v x) stored-state
-
--- What holds of each of n numbers, from one on.
-abbrev pub AllFrom : (ℕ → Type 0) → ℕ → ℕ → Type 0
-AllFrom P at zero = Unit {0}
-AllFrom P at (suc n) = P at × AllFrom P (suc at) n
-
-infixr 20 _and_
-abbrev pub _and_ : {A B : Type 0} → A → B → A × B
-a and b = (a, b)
-
--- What holds of each holds of every one of them.
-pub within-all : (P : ℕ → Type 0) (n at : ℕ) → AllFrom P at n → (k : ℕ) → at ≤ k → k < at + n → P k
-within-all P zero at all k l h = absurd (omega arith)
-within-all P (suc n) at all k l h = pick (ℕ-discrete k at) (λ d. within-all P n (suc at) (all .1) k (omega (arith, d)) (omega arith))
-  where
-    pick : Dec (k ≡ at) → ((k ≡ at → ⊥) → P k) → P k
-    pick (yes e) more = subst P (sym e) (all .0)
-    pick (no d) more = more d
-
-pub below : (P : ℕ → Type 0) (n : ℕ) → AllFrom P 0 n → (k : ℕ) → k < n → P k
-below P n all k h = within-all P n 0 all k (omega arith) (omega arith)
 
 -- The words of a state, in their order: its fields one after another.
 regWords : BlitRegs → List ℕ

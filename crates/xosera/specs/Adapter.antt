@@ -1,12 +1,9 @@
--- An adapter: the state with both memories, and what an access asks of it.
-use mathlib.Core.Bool.{Bool, false}
+-- An adapter: the state with both memories.
 use mathlib.Core.List.{List}
-use Prim.Native.Nat.{ℕ, _-_}
-use lib.Bits.{bitAnd, bitOr}
+use Prim.Native.Nat.{ℕ}
 use Rattle.xosera.specs.State.{Timer, XrPort, VramPort, Host, Video, State, stateAt}
 use Rattle.xosera.specs.declared.BlitRegs.{BlitRegs}
 use Rattle.xosera.specs.declared.Engine.{Engine}
-use Rattle.xosera.specs.Memories.{Store, noStore}
 
 -- The host's side: all that a host access changes and no blit step touches.
 pub record Side : Type 0 where
@@ -92,26 +89,3 @@ withWrAddr p a = record { rdincr = p .rdincr; rdaddr = p .rdaddr; wrincr = p .wr
 
 abbrev pub withBuffer : VramPort → ℕ → VramPort
 withBuffer p b = record { rdincr = p .rdincr; rdaddr = p .rdaddr; wrincr = p .wrincr; wraddr = p .wraddr; buffer = b; nibbles = p .nibbles }
-
--- What an access does to the interrupt status: nothing, set bits, or clear bits.
-pub data StatusChange : Type 0 where
-  kept : StatusChange
-  raised cleared : ℕ → StatusChange
-
-unfoldable pub changed : StatusChange → ℕ → ℕ
-changed kept status = status
-changed (raised bits) status = bitOr status bits
-changed (cleared bits) status = bitAnd status (127 - bits)
-
--- What an access asks for: the side after it, at most one store to VRAM, whether the VRAM read buffer is loaded from the
--- read address, whether a blit is started or queued, and what becomes of the interrupt status.
-pub record Act : Type 0 where
-  pub side : Side
-  pub store : Store
-  pub load : Bool
-  pub start : Bool
-  pub status : StatusChange
-
--- An access that changes the side alone.
-abbrev pub quiet : Side → Act
-quiet s = record { side = s; store = noStore; load = false; start = false; status = kept }

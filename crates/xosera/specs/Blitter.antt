@@ -1,13 +1,15 @@
--- The 2D blitter (document 01, "The blitter"). An engine draws one word a step and knows nothing of the host.
+-- The 2D blitter (document 01, "The blitter"): an engine, which draws one word a step and knows nothing of the host; then its
+-- start, its steps and its end on the whole adapter.
 use mathlib.Core.Bool.{Bool, cond, _&&_}
 use mathlib.Core.List.{List}
-use Prim.Native.Nat.{ℕ, zero, suc, _+_, _*_, _-_, _/_, _%_}
+use Prim.Native.Nat.{ℕ, zero, suc, _+_, _*_, _-_, _%_}
 use lib.Bits.{bitAnd, bitOr}
 use lib.Dec.{eqb}
 use Rattle.xosera.specs.declared.BlitRegs.{BlitRegs}
 use Rattle.xosera.specs.declared.Engine.{Engine}
 use Rattle.xosera.specs.State.{isSet}
-use Rattle.xosera.specs.Words.{wrap, bit, shifted, combined, colourMask}
+use Rattle.xosera.specs.Words.{wrap, shifted, combined, colourMask}
+use Rattle.xosera.specs.Fields.{blitDone, constantSource, colourTested, wholeBytes, testColour, firstEdge, lastEdge, shiftCount}
 use Rattle.xosera.specs.Memories.{word, Store, stored}
 use Rattle.xosera.specs.Adapter.{Adapter}
 
@@ -40,49 +42,64 @@ launched r = record {
   };
 }
 
+-- Writing WORDS on an idle engine launches a blit; on a running one it queues: the registers wait in place, and the blitter is
+-- full.
+unfoldable pub startedEngine : Engine → BlitRegs → Engine
+startedEngine e r = cond (isSet (e .running)) e (launched r)
+
+abbrev pub blitStarted : Adapter → Adapter
+blitStarted a = record {
+  side = a .side;
+  status = a .status;
+  queued = a .engine .running;
+  engine = startedEngine (a .engine) (a .side .blit);
+  vram = a .vram;
+}
+
 -- The source is the constant SRC_S if CTRL bit 0.
 unfoldable pub isConstant : Engine → Bool
-isConstant e = bit 0 (e .regs .ctrl)
+isConstant e = constantSource (e .regs .ctrl)
 
--- The VRAM word at the source address.
+-- Points 1 and 2: the word that a step takes, from VRAM at the source address; with a constant none, 0, which leaves the shifter
+-- empty.
 unfoldable pub fetched : Engine → List ℕ → ℕ
-fetched e vram = word vram (e .regs .srcs)
+fetched e vram = cond (isConstant e) 0 (word vram (e .regs .srcs))
 
--- S, points 1 and 2: the constant as it is, or the VRAM word through the shifter.
-unfoldable pub sourced : Engine → List ℕ → ℕ
-sourced e vram = cond (isConstant e) (e .regs .srcs) (shifted (e .regs .shift % 4) (e .kept) (fetched e vram))
+-- S, points 1 and 2: the constant as it is, or the word taken, through the shifter.
+unfoldable pub sourced : Engine → ℕ → ℕ
+sourced e w = cond (isConstant e) (e .regs .srcs) (shifted (shiftCount (e .regs .shift)) (e .kept) w)
 
--- Point 4: the first mask, SHIFT 15:12, on a line's first word.
+-- Point 4: the first mask on a line's first word.
 unfoldable pub firstMask : Engine → ℕ
-firstMask e = cond (eqb (e .word) 0) (e .regs .shift / 4096) 15
+firstMask e = cond (eqb (e .word) 0) (firstEdge (e .regs .shift)) 15
 
 -- A line's last word.
 unfoldable pub lastWord : Engine → Bool
 lastWord e = eqb (e .word) (e .regs .words)
 
--- Point 4: the last mask, SHIFT 11:8, on a line's last word.
+-- Point 4: the last mask on a line's last word.
 unfoldable pub lastMask : Engine → ℕ
-lastMask e = cond (lastWord e) (e .regs .shift / 256 % 16) 15
+lastMask e = cond (lastWord e) (lastEdge (e .regs .shift)) 15
 
--- Point 4: the colour test of S against T, CTRL 15:8, if CTRL bit 4; on whole bytes if bit 5.
+-- Point 4: the colour test of S against T, if CTRL asks for it.
 unfoldable pub testMask : Engine → ℕ → ℕ
-testMask e s = cond (bit 4 (e .regs .ctrl)) (colourMask (bit 5 (e .regs .ctrl)) (e .regs .ctrl / 256) s) 15
+testMask e s = cond (colourTested (e .regs .ctrl)) (colourMask (wholeBytes (e .regs .ctrl)) (testColour (e .regs .ctrl)) s) 15
 
 -- Point 4: a nibble is written unless one of the three holds it back.
 unfoldable pub writeMask : Engine → ℕ → ℕ
 writeMask e s = bitAnd (bitAnd (firstMask e) (lastMask e)) (testMask e s)
 
--- One step's store: the result, point 3, to the destination under the write mask.
-unfoldable pub drawing : Engine → List ℕ → Store
-drawing e vram = record {
-  mask = writeMask e (sourced e vram);
+-- One step's store, from the word taken: the result, point 3, to the destination under the write mask.
+unfoldable pub drawing : Engine → ℕ → Store
+drawing e w = record {
+  mask = writeMask e (sourced e w);
   addr = e .regs .dstd;
-  value = combined (sourced e vram) (e .regs .andc) (e .regs .xor);
+  value = combined (sourced e w) (e .regs .andc) (e .regs .xor);
 }
 
 -- VRAM after one step.
 unfoldable pub drawn : Engine → List ℕ → List ℕ
-drawn e vram = stored (drawing e vram) vram
+drawn e vram = stored (drawing e (fetched e vram)) vram
 
 -- The blit's last word.
 unfoldable pub lastStep : Engine → Bool
@@ -100,17 +117,17 @@ nextDest e =
     let d = wrap (e .regs .dstd) 1 in
     cond (lastWord e) (wrap d (e .regs .modd)) d
 
--- Point 2: the word kept for the shifter is whole and unshifted; a constant leaves none, and a line starts with none.
-unfoldable pub nextKept : Engine → List ℕ → ℕ
-nextKept e vram = cond (lastWord e) 0 (cond (isConstant e) 0 (fetched e vram))
+-- Point 2: the shifter keeps the word taken, none of a constant, whole and unshifted, and starts every line empty.
+unfoldable pub nextKept : Engine → ℕ → ℕ
+nextKept e w = cond (lastWord e) 0 w
 
--- The engine after one step that is not the blit's last.
-unfoldable pub next : Engine → List ℕ → Engine
-next e vram = record {
+-- The engine after one step, from the word taken.
+unfoldable pub next : Engine → ℕ → Engine
+next e w = record {
   running = 1;
   line = cond (lastWord e) (e .line + 1) (e .line);
   word = cond (lastWord e) 0 (e .word + 1);
-  kept = nextKept e vram;
+  kept = nextKept e w;
   regs = record {
     ctrl = e .regs .ctrl;
     andc = e .regs .andc;
@@ -125,22 +142,31 @@ next e vram = record {
   };
 }
 
--- The engine after a blit's last step: the queued blit's, if any, which copies the registers now.
+-- An adapter with another engine and VRAM.
+abbrev pub moved : Adapter → Engine → List ℕ → Adapter
+moved a e vram = record { side = a .side; status = a .status; queued = a .queued; engine = e; vram = vram }
+
+-- The adapter with the engine's next word drawn.
+abbrev pub wordDrawn : Adapter → Adapter
+wordDrawn a = moved a (next (a .engine) (fetched (a .engine) (a .vram))) (drawn (a .engine) (a .vram))
+
+-- The engine after a blit's end: the queued blit's, if any, which copies the registers now.
 unfoldable pub succeeding : Bool → BlitRegs → Engine
 succeeding queued r = cond queued (launched r) idle
 
--- One blit step. The last of a blit sets status bit 6 and starts the queued blit, if any.
--- On an idle engine a step does nothing.
+-- A blit's end: it sets status bit 6 and starts the queued blit, if any.
+abbrev pub blitEnded : Adapter → Adapter
+blitEnded a = record {
+  side = a .side;
+  status = bitOr (a .status) blitDone;
+  queued = 0;
+  engine = succeeding (isSet (a .queued)) (a .side .blit);
+  vram = a .vram;
+}
+
+-- One blit step is one word; the last of a blit is its end. On an idle engine a step does nothing.
 unfoldable pub stepped : Adapter → Adapter
-stepped a = cond (isSet (a .engine .running))
-    (record {
-      side = a .side;
-      status = cond (lastStep (a .engine)) (bitOr (a .status) 64) (a .status);
-      queued = cond (lastStep (a .engine)) 0 (a .queued);
-      engine = cond (lastStep (a .engine)) (succeeding (isSet (a .queued)) (a .side .blit)) (next (a .engine) (a .vram));
-      vram = drawn (a .engine) (a .vram);
-    })
-    a
+stepped a = cond (isSet (a .engine .running)) (cond (lastStep (a .engine)) (blitEnded (wordDrawn a)) (wordDrawn a)) a
 
 -- n blit steps, each on what the one before it left.
 unfoldable pub steps : ℕ → Adapter → Adapter

@@ -4,11 +4,13 @@ use mathlib.Core.List.{List, [], _∷_}
 use Prim.Native.Nat.{ℕ, _+_, _*_, _/_, _%_}
 use lib.Dec.{eqb}
 use lib.ListN.{getD, set}
-use Rattle.xosera.specs.State.{Timer, Host}
+use Rattle.xosera.specs.State.{Timer, Host, State, isSet}
 use Rattle.xosera.specs.Words.{wrap}
+use Rattle.xosera.specs.Fields.{intMask, intStatus, wrMask, Flags, flagBits}
 use Rattle.xosera.specs.Memories.{noStore}
-use Rattle.xosera.specs.Adapter.{Side, Act, quiet, kept, cleared, withHost, withTimer, withXrPort, withVramPort}
+use Rattle.xosera.specs.Adapter.{Side, withHost, withTimer, withXrPort, withVramPort}
 use Rattle.xosera.specs.Adapter.{withIntMask, withLatches, withRdXaddr, withWrXaddr, withNibbles, withRdIncr, withRdAddr, withWrIncr, withWrAddr}
+use Rattle.xosera.specs.Plan.{Act, quiet, unchanged, cleared}
 use Rattle.xosera.specs.XrSpace.{xrRead, xrWrite}
 
 -- The word of an odd write: the register's latch and the byte.
@@ -30,21 +32,21 @@ vramLoad s a = record {
   store = noStore;
   load = true;
   start = false;
-  status = kept;
+  status = unchanged;
 }
 
 -- 0: a write sets the nibble mask only.
 abbrev pub writeSysCtrl : Side → ℕ → Act
-writeSysCtrl s w = quiet (withHost s (withVramPort (s .host) (withNibbles (s .host .vram) (w % 16))))
+writeSysCtrl s w = quiet (withHost s (withVramPort (s .host) (withNibbles (s .host .vram) (wrMask w))))
 
 -- 1: a write sets the interrupt mask and clears each status bit written as 1.
 abbrev pub writeIntCtrl : Side → ℕ → Act
 writeIntCtrl s w = record {
-  side = withHost s (withIntMask (s .host) (w / 256 % 128));
+  side = withHost s (withIntMask (s .host) (intMask w));
   store = noStore;
   load = false;
   start = false;
-  status = cleared (w % 128);
+  status = cleared (intStatus w);
 }
 
 -- 2: a write sets the countdown and its interval; 0 stops it.
@@ -92,7 +94,7 @@ writeData s w = record {
   store = record { mask = s .host .vram .nibbles; addr = s .host .vram .wraddr .0; value = w };
   load = false;
   start = false;
-  status = kept;
+  status = unchanged;
 }
 
 -- 12 to 15 ignore the word written.
@@ -119,11 +121,13 @@ shown h r =
     getD (0 ∷ 0 ∷ 0 ∷ h .xr .rdxaddr .0 ∷ h .xr .wrxaddr .0 ∷ h .xr .buffer
     ∷ h .vram .rdincr ∷ h .vram .rdaddr .0 ∷ h .vram .wrincr ∷ h .vram .wraddr .0 ∷ h .vram .buffer ∷ h .vram .buffer ∷ []) r 0
 
--- The high byte that an even read gives: of 0 bit 14 blitter full and bit 13 blitter busy, of 1 the interrupt mask,
--- of 2 the timer's, else of the word shown.
-unfoldable pub highByte : Host → Bool → Bool → ℕ → ℕ
-highByte h full busy r =
-    getD ((cond full 64 0 + cond busy 32 0) ∷ h .intmask ∷ h .timer .count / 256 ∷ []) r (shown h r / 256)
+-- The flags of XM_SYS_CTRL: the blitter is full while a blit is queued, and busy while one runs.
+abbrev pub flagsOf : State → Flags
+flagsOf s = record { full = isSet (s .queued); busy = isSet (s .engine .running) }
+
+-- The high byte that an even read gives: of 0 the flags, of 1 the interrupt mask, of 2 the timer's, else of the word shown.
+unfoldable pub highByte : Host → Flags → ℕ → ℕ
+highByte h flags r = getD (flagBits flags ∷ h .intmask ∷ h .timer .count / 256 ∷ []) r (shown h r / 256)
 
 -- The low byte that an odd read gives: of 0 the nibble mask, of 1 the interrupt status, of 2 the byte saved by the last
 -- even read, else of the word shown.

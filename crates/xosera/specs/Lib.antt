@@ -1,14 +1,19 @@
--- Document 01 as definitions, in an order in which each module uses only those before it.
+-- Document 01 as definitions, in an order in which each module uses only those before it. `Fields` also has those of GFX_CTRL,
+-- which request 6 reads.
 pub mod State
 pub mod Words
+pub mod Fields
 pub mod Memories
 pub mod Adapter
+pub mod Blitter
+pub mod Plan
 pub mod XrSpace
 pub mod HostBytes
 pub mod TimerTick
-pub mod Blitter
 pub mod Events
+pub mod Ranges
 pub mod Refusals
 pub mod Calls
 pub mod Sequences
 pub mod BenchTable
+pub mod Examples

@@ -5,9 +5,9 @@ use mathlib.Core.List.{List, [], _∷_}
 use Prim.Native.Nat.{ℕ}
 use Rattle.xosera.specs.Adapter.{Adapter}
 use Rattle.xosera.specs.Blitter.{blitWords}
-use Rattle.xosera.specs.Events.{Event, write, call}
+use Rattle.xosera.specs.Events.{Event, Answer, write, call}
 use Rattle.xosera.specs.Refusals.{refusal}
-use Rattle.xosera.specs.Calls.{after}
+use Rattle.xosera.specs.Calls.{after, answer}
 
 -- The start: an odd write to XM_XDATA, not refused, with 0x49 in 4 and the engine idle.
 abbrev pub startWith : ℕ → Event
@@ -26,3 +26,8 @@ wordsOf a = blitWords (a .engine .regs)
 unfoldable pub afterAll : Adapter → List Event → Adapter
 afterAll a [] = a
 afterAll a (e ∷ es) = afterAll (after a e) es
+
+-- The answers of all of them.
+unfoldable pub allAnswers : Adapter → List Event → List Answer
+allAnswers a [] = []
+allAnswers a (e ∷ es) = answer a e ∷ allAnswers (after a e) es

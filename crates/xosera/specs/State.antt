@@ -1,4 +1,4 @@
--- The adapter's state by name, and the 16-bit words that stand for it. A flag is 1 or 0. The ranges of the fields are in Refusals.
+-- The adapter's state by name, and the 16-bit words that stand for it. A flag is 1 or 0. The ranges of the fields are in Ranges.
 use mathlib.Core.Bool.{Bool}
 use mathlib.Core.List.{List, [], _∷_}
 use Prim.Native.Nat.{ℕ, zero, suc, _+_}

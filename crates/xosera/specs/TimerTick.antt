@@ -4,20 +4,22 @@ use Prim.Native.Nat.{ℕ, _-_}
 use lib.Dec.{eqb}
 use Rattle.xosera.specs.State.{Timer}
 use Rattle.xosera.specs.Words.{wrap}
+use Rattle.xosera.specs.Fields.{frameEnded, timerExpired}
 use Rattle.xosera.specs.Memories.{noStore}
-use Rattle.xosera.specs.Adapter.{Side, Act, kept, raised, withHost, withTimer}
+use Rattle.xosera.specs.Adapter.{Side, withHost, withTimer}
+use Rattle.xosera.specs.Plan.{Act, unchanged, raised}
 
 -- The countdown that this tick brings to 0.
 unfoldable pub expires : Timer → Bool
 expires t = eqb (t .countdown) 1
 
 -- The countdown after a tick: one less, the interval again where that is 0; a stopped one stays 0.
-unfoldable pub counted : Timer → ℕ
-counted t = cond (expires t) (t .interval) (t .countdown - 1)
+unfoldable pub lowered : Timer → ℕ
+lowered t = cond (expires t) (t .interval) (t .countdown - 1)
 
 -- A tick adds 1 to the timer, 0 after 65,535, and lowers a running countdown.
 unfoldable pub ticked : Timer → Timer
-ticked t = record { count = wrap (t .count) 1; countdown = counted t; interval = t .interval; saved = t .saved }
+ticked t = record { count = wrap (t .count) 1; countdown = lowered t; interval = t .interval; saved = t .saved }
 
 -- A countdown that reaches 0 sets status bit 5.
 unfoldable pub tick : Side → Act
@@ -26,9 +28,9 @@ tick s = record {
   store = noStore;
   load = false;
   start = false;
-  status = cond (expires (s .host .timer)) (raised 32) kept;
+  status = cond (expires (s .host .timer)) (raised timerExpired) unchanged;
 }
 
 -- A frame end sets status bit 4.
 unfoldable pub frameEnd : Side → Act
-frameEnd s = record { side = s; store = noStore; load = false; start = false; status = raised 16 }
+frameEnd s = record { side = s; store = noStore; load = false; start = false; status = raised frameEnded }

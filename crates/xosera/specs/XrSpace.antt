@@ -5,9 +5,11 @@ use Prim.Native.Nat.{ℕ, _+_, _-_}
 use lib.Dec.{leb, ltb, eqb}
 use lib.ListN.{getD, set}
 use Rattle.xosera.specs.State.{Video}
+use Rattle.xosera.specs.Fields.{frameEnded}
 use Rattle.xosera.specs.declared.BlitRegs.{BlitRegs}
 use Rattle.xosera.specs.Memories.{noStore}
-use Rattle.xosera.specs.Adapter.{Side, Act, kept, raised}
+use Rattle.xosera.specs.Adapter.{Side}
+use Rattle.xosera.specs.Plan.{Act, unchanged, raised}
 
 -- Whether an address is one of the n from `base` on.
 unfoldable pub within : ℕ → ℕ → ℕ → Bool
@@ -21,12 +23,16 @@ isBlitRegister a = within 0x40 10 a
 unfoldable pub playfieldRead : List ℕ → ℕ → ℕ
 playfieldRead p i = cond (eqb i 5) 0 (getD p i 0)
 
+-- The registers from 0x00 on; 0x03 reads 0.
+abbrev pub lowRegisters : Video → List ℕ
+lowRegisters v = v .vidctrl ∷ v .coppctrl ∷ v .audctrl ∷ 0 ∷ v .vidleft ∷ v .vidright ∷ []
+
 -- The registers that read back: 0x00 to 0x05 but 0x03, 0x10 to 0x16 but 0x15, 0x18 to 0x1E but 0x1D. All else reads 0.
 unfoldable pub registerRead : Video → ℕ → ℕ
 registerRead v a =
     cond (within 0x10 7 a) (playfieldRead (v .pa) (a - 0x10))
     (cond (within 0x18 7 a) (playfieldRead (v .pb) (a - 0x18))
-    (getD (v .vidctrl ∷ v .coppctrl ∷ v .audctrl ∷ 0 ∷ v .vidleft ∷ v .vidright ∷ []) a 0))
+    (getD (lowRegisters v) a 0))
 
 -- A read anywhere in the XR space: tile memory at 0x4000, colour at 0x8000, copper at 0xC000, else a register.
 unfoldable pub xrRead : Video → List ℕ → ℕ → ℕ
@@ -88,5 +94,5 @@ xrWrite s a w = record {
   store = noStore;
   load = false;
   start = eqb a 0x49;
-  status = cond (eqb a 0x03) (raised 16) kept;
+  status = cond (eqb a 0x03) (raised frameEnded) unchanged;
 }

@@ -155,3 +155,15 @@ pub const PLAYFIELD_B: usize = 58;
 
 // The blitter's ten registers as the host wrote them.
 pub const BLIT_REGS: usize = 65;
+
+// The bits of the interrupt status (specs/Fields.antt).
+pub const FRAME_ENDED: u16 = 16;
+
+pub const TIMER_EXPIRED: u16 = 32;
+
+pub const BLIT_DONE: u16 = 64;
+
+// The flags of XM_SYS_CTRL, as bits of its high byte.
+pub const BLITTER_FULL: u8 = 64;
+
+pub const BLITTER_BUSY: u8 = 32;
