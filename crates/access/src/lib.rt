@@ -1,5 +1,6 @@
 // Host accesses, frame ends and the interrupt line on the words of the state and the lent memories. The caller has tested
 // lengths, ranges and refusals.
+use xosera::FRAME_ENDED;
 use xosera::INT_MASK;
 use xosera::NIBBLES;
 use xosera::RD_INCR;
@@ -14,16 +15,17 @@ ghost use mathlib.Core.Bool.{true};
 ghost use mathlib.Core.List.{List};
 ghost use Prim.Native.Nat.{ℕ, _<_, _≤_};
 ghost use lib.ListN.{length, getD};
-ghost use Rattle.xosera.specs.State.{stateAt};
+ghost use Rattle.xosera.specs.State.{stateWords, stateAt};
 ghost use Rattle.xosera.specs.Memories.{isVramLength};
 ghost use Rattle.xosera.specs.Adapter.{Side};
 ghost use Rattle.xosera.specs.HostBytes.{writeWord, writeByte, readByte};
 ghost use Rattle.xosera.specs.TimerTick as TimerTick;
-ghost use Rattle.xosera.specs.Calls.{Performs, lineUp};
+ghost use Rattle.xosera.specs.Plan.{Performs};
+ghost use Rattle.xosera.specs.Calls.{lineUp};
 
 // An odd write, by register.
 fn write_word(s: &mut [u16], vram: &mut [u16], xr: &mut [u16], reg: u8, w: u16)
-    requires { ⌜ length (now s) ≡ 75 ⌝ }
+    requires { ⌜ length (now s) ≡ stateWords ⌝ }
     requires { ⌜ isVramLength (length (now vram)) ≡ true ⌝ }
     requires { ⌜ length (now xr) ≡ 6656 ⌝ }
     ensures { λ _. ⌜
@@ -50,7 +52,7 @@ fn write_word(s: &mut [u16], vram: &mut [u16], xr: &mut [u16], reg: u8, w: u16)
 
 // A byte write.
 pub fn write(s: &mut [u16], vram: &mut [u16], xr: &mut [u16], reg: u8, odd: bool, byte: u8)
-    requires { ⌜ length (now s) ≡ 75 ⌝ }
+    requires { ⌜ length (now s) ≡ stateWords ⌝ }
     requires { ⌜ isVramLength (length (now vram)) ≡ true ⌝ }
     requires { ⌜ length (now xr) ≡ 6656 ⌝ }
     requires { ⌜ reg < 16 ⌝ }
@@ -70,7 +72,7 @@ pub fn write(s: &mut [u16], vram: &mut [u16], xr: &mut [u16], reg: u8, odd: bool
 
 // What a byte read does besides giving its byte.
 pub fn read(s: &mut [u16], vram: &[u16], xr: &[u16], reg: u8, odd: bool)
-    requires { ⌜ length (now s) ≡ 75 ⌝ }
+    requires { ⌜ length (now s) ≡ stateWords ⌝ }
     requires { ⌜ isVramLength (length (now vram)) ≡ true ⌝ }
     requires { ⌜ length (now xr) ≡ 6656 ⌝ }
     ensures { λ _. ⌜
@@ -94,15 +96,15 @@ pub fn read(s: &mut [u16], vram: &[u16], xr: &[u16], reg: u8, odd: bool)
 
 // A frame end sets status bit 4.
 pub fn frame_end(s: &mut [u16])
-    requires { ⌜ length (now s) ≡ 75 ⌝ }
+    requires { ⌜ length (now s) ≡ stateWords ⌝ }
     ensures { λ _. ⌜ ((v x : List ℕ) → Performs TimerTick.frameEnd (now (s .entry)) v x (now (s .exit)) v x) ⌝ }
 {
-    s[STATUS] = s[STATUS] | 16;
+    s[STATUS] = s[STATUS] | FRAME_ENDED;
 }
 
 // The interrupt line is up when some bit is set in both mask and status.
 pub fn line_up(s: &[u16]) -> bool
-    requires { ⌜ length (now s) ≡ 75 ⌝ }
+    requires { ⌜ length (now s) ≡ stateWords ⌝ }
     ensures { λ r. ⌜ r ≡ lineUp (stateAt (now (s .entry)) .host .intmask) (stateAt (now (s .entry)) .status) ⌝ }
 {
     (s[INT_MASK] & s[STATUS]) != 0

@@ -1,2 +1,2 @@
 -- Laws of answers that belong to no one call.
-pub mod Answers
+pub mod Promised

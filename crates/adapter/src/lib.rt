@@ -4,6 +4,7 @@ use xosera::BlitAnswer;
 use xosera::LineAnswer;
 use xosera::NIBBLES;
 use xosera::ReadAnswer;
+use xosera::STATE_WORDS;
 use xosera::StateAnswer;
 use xosera::VID_RIGHT;
 use xosera::WriteAnswer;
@@ -13,21 +14,21 @@ ghost use Prim.Native.Nat.{ℕ};
 ghost use Rattle.xosera.specs.State.{stateAt};
 ghost use Rattle.xosera.specs.Adapter.{adapterAt};
 ghost use Rattle.xosera.specs.Events.{write, read, tick, frameEnd, line, call, step, run, ofWrite, ofRead, ofBlit, ofState, ofLine};
-ghost use Rattle.xosera.specs.Refusals.{resetState};
+ghost use Rattle.xosera.specs.Ranges.{resetState};
 ghost use Rattle.adapter.specs.Promises.{Does, Untouched};
 
 // The state after reset, whatever the words were. It refuses nothing and takes no memory.
-pub fn reset(s: &mut [u16; 75])
+pub fn reset(s: &mut [u16; STATE_WORDS])
     ensures { λ _. ⌜ stateAt (now (s .exit)) ≡ resetState ⌝ }
 {
-    *s = [0; 75];
+    *s = [0; STATE_WORDS];
     s[NIBBLES] = 15;
     s[VID_RIGHT] = 640;
 }
 
 // A host writes one byte of a main register.
 pub fn write_byte(
-    s: &mut [u16; 75],
+    s: &mut [u16; STATE_WORDS],
     vram: &mut [u16],
     xr: &mut [u16],
     reg: u8,
@@ -49,7 +50,13 @@ pub fn write_byte(
 }
 
 // A host reads one byte of a main register.
-pub fn read_byte(s: &mut [u16; 75], vram: &[u16], xr: &[u16], reg: u8, odd: bool) -> ReadAnswer
+pub fn read_byte(
+    s: &mut [u16; STATE_WORDS],
+    vram: &[u16],
+    xr: &[u16],
+    reg: u8,
+    odd: bool,
+) -> ReadAnswer
     ensures done { λ r. ⌜
         Does (adapterAt (now (s .entry)) (now (vram .entry)) (now (xr .entry))) (call (read reg odd)) (ofRead r)
         (adapterAt (now (s .exit)) (now (vram .entry)) (now (xr .entry)))
@@ -67,7 +74,7 @@ pub fn read_byte(s: &mut [u16; 75], vram: &[u16], xr: &[u16], reg: u8, odd: bool
 }
 
 // One blit step: one word.
-pub fn blit_step(s: &mut [u16; 75], vram: &mut [u16], xr: &[u16]) -> BlitAnswer
+pub fn blit_step(s: &mut [u16; STATE_WORDS], vram: &mut [u16], xr: &[u16]) -> BlitAnswer
     ensures done { λ r. ⌜
         Does (adapterAt (now (s .entry)) (now (vram .entry)) (now (xr .entry))) step (ofBlit r)
         (adapterAt (now (s .exit)) (now (vram .exit)) (now (xr .entry)))
@@ -84,7 +91,7 @@ pub fn blit_step(s: &mut [u16; 75], vram: &mut [u16], xr: &[u16]) -> BlitAnswer
 }
 
 // A run of up to n blit steps.
-pub fn blit_run(s: &mut [u16; 75], vram: &mut [u16], xr: &[u16], n: u64) -> BlitAnswer
+pub fn blit_run(s: &mut [u16; STATE_WORDS], vram: &mut [u16], xr: &[u16], n: u64) -> BlitAnswer
     ensures done { λ r. ⌜
         Does (adapterAt (now (s .entry)) (now (vram .entry)) (now (xr .entry))) (run n) (ofBlit r)
         (adapterAt (now (s .exit)) (now (vram .exit)) (now (xr .entry)))
@@ -101,7 +108,7 @@ pub fn blit_run(s: &mut [u16; 75], vram: &mut [u16], xr: &[u16], n: u64) -> Blit
 }
 
 // A timer tick.
-pub fn timer_tick(s: &mut [u16; 75]) -> StateAnswer
+pub fn timer_tick(s: &mut [u16; STATE_WORDS]) -> StateAnswer
     ensures done { λ r. ⌜ ((v x : List ℕ) → Does (adapterAt (now (s .entry)) v x) (call tick) (ofState r) (adapterAt (now (s .exit)) v x)) ⌝ }
     ensures refused { λ r. ⌜ Untouched (ofState r) (now (s .entry)) (now (s .exit)) ⌝ }
 {
@@ -115,7 +122,7 @@ pub fn timer_tick(s: &mut [u16; 75]) -> StateAnswer
 }
 
 // A frame end.
-pub fn frame_end(s: &mut [u16; 75]) -> StateAnswer
+pub fn frame_end(s: &mut [u16; STATE_WORDS]) -> StateAnswer
     ensures done { λ r. ⌜ ((v x : List ℕ) → Does (adapterAt (now (s .entry)) v x) (call frameEnd) (ofState r) (adapterAt (now (s .exit)) v x)) ⌝ }
     ensures refused { λ r. ⌜ Untouched (ofState r) (now (s .entry)) (now (s .exit)) ⌝ }
 {
@@ -129,7 +136,7 @@ pub fn frame_end(s: &mut [u16; 75]) -> StateAnswer
 }
 
 // Whether the interrupt line is up. It changes nothing.
-pub fn interrupt_line(s: &[u16; 75]) -> LineAnswer
+pub fn interrupt_line(s: &[u16; STATE_WORDS]) -> LineAnswer
     ensures { λ r. ⌜ ((v x : List ℕ) → Does (adapterAt (now (s .entry)) v x) (call line) (ofLine r) (adapterAt (now (s .entry)) v x)) ⌝ }
 {
     let registers = ranges::registers_in_range(s);

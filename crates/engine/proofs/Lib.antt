@@ -1,3 +1,3 @@
 -- Laws of one word and of runs of words that belong to no one function.
-pub mod Words
+pub mod MaskBits
 pub mod Runs

@@ -8,10 +8,11 @@ ghost use Prim.Native.Nat.{_+_};
 ghost use lib.ListN.{length};
 ghost use Rattle.xosera.specs.Words.{wrap};
 ghost use Rattle.xosera.specs.Memories.{isVramLength};
-ghost use Rattle.xosera.specs.Blitter.{idle, launched, isConstant, lastWord, firstMask, lastMask};
-ghost use Rattle.xosera.specs.Blitter.{testMask, writeMask, drawn, lastStep, nextSource, nextDest};
+ghost use Rattle.xosera.specs.Blitter.{idle, launched, isConstant, fetched, sourced, lastWord, firstMask, lastMask};
+ghost use Rattle.xosera.specs.Blitter.{testMask, writeMask, drawn, lastStep, nextSource, nextDest, next};
+ghost use Rattle.xosera.specs.Ranges.{Running};
 ghost use Rattle.words.specs.Spread.{spread};
-ghost use Rattle.engine.specs.Progress.{rawWord, sourcedFrom, advanced, Running, Going, RanTo};
+ghost use Rattle.engine.specs.Progress.{Going, RanTo};
 
 // An idle engine.
 pub fn idle_engine() -> Engine
@@ -119,10 +120,10 @@ pub fn write_mask(e: Engine, s: u16) -> u16
     words::gathered(write_bits(e, s))
 }
 
-// The word that the shifter keeps: the VRAM word at the source address, or none of a constant.
+// The word that a step takes: the VRAM word at the source address, or none of a constant.
 fn fetch(e: Engine, vram: &[u16]) -> u16
     requires { ⌜ isVramLength (length (now vram)) ≡ true ⌝ }
-    ensures { λ r. ⌜ r ≡ rawWord e (now (vram .entry)) ⌝ }
+    ensures { λ r. ⌜ r ≡ fetched e (now (vram .entry)) ⌝ }
 {
     if is_constant(e) {
         return 0;
@@ -131,29 +132,29 @@ fn fetch(e: Engine, vram: &[u16]) -> u16
     vram::read_word(vram, at)
 }
 
-// S: the constant, or the VRAM word through the shifter.
-fn source(e: Engine, raw: u16) -> u16
-    ensures { λ r. ⌜ r ≡ sourcedFrom e raw ⌝ }
+// S: the constant, or the word taken, through the shifter.
+fn source(e: Engine, word: u16) -> u16
+    ensures { λ r. ⌜ r ≡ sourced e word ⌝ }
 {
     if is_constant(e) {
         e.regs.srcs
     } else {
-        words::shifted(e.regs.shift, e.kept, raw)
+        words::shifted(e.regs.shift, e.kept, word)
     }
 }
 
-// One word drawn; the answer is the word that the shifter keeps.
+// One word drawn; the answer is the word taken.
 pub fn draw(e: Engine, vram: &mut [u16]) -> u16
     requires { ⌜ isVramLength (length (now vram)) ≡ true ⌝ }
-    ensures { λ r. ⌜ (r ≡ rawWord e (now (vram .entry))) × (now (vram .exit) ≡ drawn e (now (vram .entry))) ⌝ }
+    ensures { λ r. ⌜ (r ≡ fetched e (now (vram .entry))) × (now (vram .exit) ≡ drawn e (now (vram .entry))) ⌝ }
 {
-    let raw = fetch(e, vram);
-    let s = source(e, raw);
+    let word = fetch(e, vram);
+    let s = source(e, word);
     let bits = write_bits(e, s);
     let value = words::combined(s, e.regs.andc, e.regs.xor);
     let at = VramAddr(e.regs.dstd);
     vram::store_bits(vram, at, bits, value);
-    raw
+    word
 }
 
 // The source goes up by 1 unless it is a constant.
@@ -187,10 +188,10 @@ fn next_dest(e: Engine) -> u16
 }
 
 // The engine after a word that is not the blit's last.
-pub fn advance(e: Engine, raw: u16) -> Engine
+pub fn advance(e: Engine, word: u16) -> Engine
     requires { ⌜ Running e ⌝ }
     requires { ⌜ lastStep e ≡ false ⌝ }
-    ensures { λ r. ⌜ r ≡ advanced e raw ⌝ }
+    ensures { λ r. ⌜ r ≡ next e word ⌝ }
 {
     let src = next_source(e);
     let dst = next_dest(e);
@@ -210,15 +211,15 @@ pub fn advance(e: Engine, raw: u16) -> Engine
         running: 1,
         line: e.line,
         word: e.word + 1,
-        kept: raw,
+        kept: word,
         regs,
     }
 }
 
-// What a run inside one blit came to: the engine and the steps left, or the blit's end.
+// What a run inside one blit came to: the engine and the rest of the steps, or the blit's end.
 pub struct Ran {
     pub engine: Engine,
-    pub left: u64,
+    pub rest: u64,
     pub over: bool,
 }
 
@@ -226,24 +227,24 @@ pub struct Ran {
 fn run_inside(e: Engine, vram: &mut [u16], n: u64) -> Ran
     requires { ⌜ isVramLength (length (now vram)) ≡ true ⌝ }
     requires { ⌜ Running e ⌝ }
-    ensures { λ r. ⌜ Going e (now (vram .entry)) n (r .engine) (now (vram .exit)) (r .left) ⌝ }
+    ensures { λ r. ⌜ Going e (now (vram .entry)) n (r .engine) (now (vram .exit)) (r .rest) ⌝ }
 {
     let mut at = e;
-    let mut left = n;
-    while left > 0 {
+    let mut rest = n;
+    while rest > 0 {
         if at.word == 0 {
             break;
         }
         if last_word(at) {
             break;
         }
-        let raw = draw(at, vram);
-        at = advance(at, raw);
-        left = left - 1;
+        let word = draw(at, vram);
+        at = advance(at, word);
+        rest = rest - 1;
     }
     Ran {
         engine: at,
-        left,
+        rest,
         over: false,
     }
 }
@@ -255,28 +256,28 @@ pub fn run_blit(e: Engine, vram: &mut [u16], n: u64) -> Ran
     ensures { λ r. ⌜ RanTo e (now (vram .entry)) n r (now (vram .exit)) ⌝ }
 {
     let mut at = e;
-    let mut left = n;
-    while left > 0 {
-        let inside = run_inside(at, vram, left);
+    let mut rest = n;
+    while rest > 0 {
+        let inside = run_inside(at, vram, rest);
         at = inside.engine;
-        left = inside.left;
-        if left == 0 {
+        rest = inside.rest;
+        if rest == 0 {
             break;
         }
-        let raw = draw(at, vram);
-        left = left - 1;
+        let word = draw(at, vram);
+        rest = rest - 1;
         if last_step(at) {
             return Ran {
                 engine: at,
-                left,
+                rest,
                 over: true,
             };
         }
-        at = advance(at, raw);
+        at = advance(at, word);
     }
     Ran {
         engine: at,
-        left,
+        rest,
         over: false,
     }
 }

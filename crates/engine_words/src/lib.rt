@@ -19,13 +19,13 @@ use xosera::WORD;
 ghost use mathlib.Core.Path.{_≡_};
 ghost use Prim.Native.Nat.{_+_, _≤_};
 ghost use lib.ListN.{length};
-ghost use Rattle.xosera.specs.State.{regsFrom, wordAt, stateAt};
+ghost use Rattle.xosera.specs.State.{stateWords, regsFrom, wordAt, stateAt};
 ghost use Rattle.engine_words.specs.Held.{withEngine, moving};
 
 // Ten registers from a place on.
 fn regs_from(s: &[u16], at: usize) -> BlitRegs
-    requires { ⌜ length (now s) ≡ 75 ⌝ }
-    requires { ⌜ at + 10 ≤ 75 ⌝ }
+    requires { ⌜ length (now s) ≡ stateWords ⌝ }
+    requires { ⌜ at + 10 ≤ stateWords ⌝ }
     ensures { λ r. ⌜ r ≡ regsFrom at (wordAt (now (s .entry))) ⌝ }
 {
     BlitRegs {
@@ -44,7 +44,7 @@ fn regs_from(s: &[u16], at: usize) -> BlitRegs
 
 // The registers as the host wrote them.
 pub fn blit_regs(s: &[u16]) -> BlitRegs
-    requires { ⌜ length (now s) ≡ 75 ⌝ }
+    requires { ⌜ length (now s) ≡ stateWords ⌝ }
     ensures { λ r. ⌜ r ≡ stateAt (now (s .entry)) .blit ⌝ }
 {
     regs_from(s, BLIT_REGS)
@@ -52,7 +52,7 @@ pub fn blit_regs(s: &[u16]) -> BlitRegs
 
 // The running blit.
 pub fn engine_of(s: &[u16]) -> Engine
-    requires { ⌜ length (now s) ≡ 75 ⌝ }
+    requires { ⌜ length (now s) ≡ stateWords ⌝ }
     ensures { λ r. ⌜ r ≡ stateAt (now (s .entry)) .engine ⌝ }
 {
     let regs = regs_from(s, ENGINE_CTRL);
@@ -67,7 +67,7 @@ pub fn engine_of(s: &[u16]) -> Engine
 
 // All words of an engine.
 pub fn put_engine(s: &mut [u16], e: Engine)
-    requires { ⌜ length (now s) ≡ 75 ⌝ }
+    requires { ⌜ length (now s) ≡ stateWords ⌝ }
     ensures { λ _. ⌜ stateAt (now (s .exit)) ≡ withEngine (stateAt (now (s .entry))) e ⌝ }
 {
     s[RUNNING] = e.running;
@@ -88,7 +88,7 @@ pub fn put_engine(s: &mut [u16], e: Engine)
 
 // The words that a step inside a blit moves on: line, word, kept word, source and destination.
 pub fn move_on(s: &mut [u16], e: Engine)
-    requires { ⌜ length (now s) ≡ 75 ⌝ }
+    requires { ⌜ length (now s) ≡ stateWords ⌝ }
     ensures { λ _. ⌜ stateAt (now (s .exit)) ≡ withEngine (stateAt (now (s .entry))) (moving (stateAt (now (s .entry)) .engine) e) ⌝ }
 {
     s[LINE] = e.line;

@@ -3,6 +3,7 @@
 use xosera::BlitAnswer;
 use xosera::LineAnswer;
 use xosera::ReadAnswer;
+use xosera::STATE_WORDS;
 use xosera::StateAnswer;
 use xosera::WriteAnswer;
 ghost use mathlib.Core.Path.{_≡_};
@@ -11,11 +12,11 @@ ghost use Prim.Native.Nat.{ℕ};
 ghost use Rattle.xosera.specs.State.{stateAt};
 ghost use Rattle.xosera.specs.Adapter.{adapterAt};
 ghost use Rattle.xosera.specs.Events.{write, read, tick, frameEnd, line, call, step, run, ofWrite, ofRead, ofBlit, ofState, ofLine};
-ghost use Rattle.xosera.specs.Refusals.{resetState};
+ghost use Rattle.xosera.specs.Ranges.{resetState};
 ghost use Rattle.adapter.specs.Promises.{Does, Untouched};
 
 #[no_mangle]
-pub extern "C" fn xosera_reset(s: &mut [u16; 75])
+pub extern "C" fn xosera_reset(s: &mut [u16; STATE_WORDS])
     ensures { λ _. ⌜ stateAt (now (s .exit)) ≡ resetState ⌝ }
 {
     adapter::reset(s);
@@ -23,7 +24,7 @@ pub extern "C" fn xosera_reset(s: &mut [u16; 75])
 
 #[no_mangle]
 pub extern "C" fn xosera_write_byte(
-    s: &mut [u16; 75],
+    s: &mut [u16; STATE_WORDS],
     vram: &mut [u16],
     xr: &mut [u16],
     reg: u8,
@@ -41,7 +42,7 @@ pub extern "C" fn xosera_write_byte(
 
 #[no_mangle]
 pub extern "C" fn xosera_read_byte(
-    s: &mut [u16; 75],
+    s: &mut [u16; STATE_WORDS],
     vram: &[u16],
     xr: &[u16],
     reg: u8,
@@ -57,7 +58,11 @@ pub extern "C" fn xosera_read_byte(
 }
 
 #[no_mangle]
-pub extern "C" fn xosera_blit_step(s: &mut [u16; 75], vram: &mut [u16], xr: &[u16]) -> BlitAnswer
+pub extern "C" fn xosera_blit_step(
+    s: &mut [u16; STATE_WORDS],
+    vram: &mut [u16],
+    xr: &[u16],
+) -> BlitAnswer
     ensures done { λ r. ⌜
         Does (adapterAt (now (s .entry)) (now (vram .entry)) (now (xr .entry))) step (ofBlit r)
         (adapterAt (now (s .exit)) (now (vram .exit)) (now (xr .entry)))
@@ -69,7 +74,7 @@ pub extern "C" fn xosera_blit_step(s: &mut [u16; 75], vram: &mut [u16], xr: &[u1
 
 #[no_mangle]
 pub extern "C" fn xosera_blit_run(
-    s: &mut [u16; 75],
+    s: &mut [u16; STATE_WORDS],
     vram: &mut [u16],
     xr: &[u16],
     n: u64,
@@ -84,7 +89,7 @@ pub extern "C" fn xosera_blit_run(
 }
 
 #[no_mangle]
-pub extern "C" fn xosera_timer_tick(s: &mut [u16; 75]) -> StateAnswer
+pub extern "C" fn xosera_timer_tick(s: &mut [u16; STATE_WORDS]) -> StateAnswer
     ensures done { λ r. ⌜ ((v x : List ℕ) → Does (adapterAt (now (s .entry)) v x) (call tick) (ofState r) (adapterAt (now (s .exit)) v x)) ⌝ }
     ensures refused { λ r. ⌜ Untouched (ofState r) (now (s .entry)) (now (s .exit)) ⌝ }
 {
@@ -92,7 +97,7 @@ pub extern "C" fn xosera_timer_tick(s: &mut [u16; 75]) -> StateAnswer
 }
 
 #[no_mangle]
-pub extern "C" fn xosera_frame_end(s: &mut [u16; 75]) -> StateAnswer
+pub extern "C" fn xosera_frame_end(s: &mut [u16; STATE_WORDS]) -> StateAnswer
     ensures done { λ r. ⌜ ((v x : List ℕ) → Does (adapterAt (now (s .entry)) v x) (call frameEnd) (ofState r) (adapterAt (now (s .exit)) v x)) ⌝ }
     ensures refused { λ r. ⌜ Untouched (ofState r) (now (s .entry)) (now (s .exit)) ⌝ }
 {
@@ -100,7 +105,7 @@ pub extern "C" fn xosera_frame_end(s: &mut [u16; 75]) -> StateAnswer
 }
 
 #[no_mangle]
-pub extern "C" fn xosera_interrupt_line(s: &[u16; 75]) -> LineAnswer
+pub extern "C" fn xosera_interrupt_line(s: &[u16; STATE_WORDS]) -> LineAnswer
     ensures { λ r. ⌜ ((v x : List ℕ) → Does (adapterAt (now (s .entry)) v x) (call line) (ofLine r) (adapterAt (now (s .entry)) v x)) ⌝ }
 {
     adapter::interrupt_line(s)

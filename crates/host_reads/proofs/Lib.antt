@@ -1,2 +1,2 @@
 -- Laws of byte reads that belong to no one function.
-pub mod Tables
+pub mod ReadTables

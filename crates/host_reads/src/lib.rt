@@ -1,4 +1,6 @@
 // What byte reads of the main registers give.
+use xosera::BLITTER_BUSY;
+use xosera::BLITTER_FULL;
 use xosera::DATA;
 use xosera::INT_MASK;
 use xosera::NIBBLES;
@@ -17,18 +19,19 @@ use xosera::XDATA;
 ghost use mathlib.Core.Path.{_≡_};
 ghost use mathlib.Core.Bool.{true, cond};
 ghost use mathlib.Core.List.{List};
-ghost use Prim.Native.Nat.{ℕ, _+_};
+ghost use Prim.Native.Nat.{ℕ, _≤_};
 ghost use lib.ListN.{length};
-ghost use Rattle.xosera.specs.State.{isSet, stateAt};
+ghost use Rattle.xosera.specs.State.{isSet, stateWords, stateAt};
+ghost use Rattle.xosera.specs.Fields.{flagBits};
 ghost use Rattle.xosera.specs.Adapter.{adapterAt};
-ghost use Rattle.xosera.specs.HostBytes.{shown, highByte, lowByte};
-ghost use Rattle.xosera.specs.Refusals.{inRange};
+ghost use Rattle.xosera.specs.HostBytes.{shown, flagsOf, highByte, lowByte};
 ghost use Rattle.xosera.specs.Events.{read, call};
+ghost use Rattle.xosera.specs.Ranges.{inRange};
 ghost use Rattle.xosera.specs.Calls.{given};
 
 // The word that a register shows.
 fn shown(s: &[u16], reg: u8) -> u16
-    requires { ⌜ length (now s) ≡ 75 ⌝ }
+    requires { ⌜ length (now s) ≡ stateWords ⌝ }
     ensures { λ r. ⌜ r ≡ shown (stateAt (now (s .entry)) .host) reg ⌝ }
 {
     match reg {
@@ -45,24 +48,26 @@ fn shown(s: &[u16], reg: u8) -> u16
     }
 }
 
+// A flag as a bit of a byte.
+fn flag(set: u16, bit: u8) -> u8
+    ensures { λ r. ⌜ (r ≡ cond (isSet set) bit 0) × (r ≤ bit) ⌝ }
+{
+    if set == 1 { bit } else { 0 }
+}
+
 // The blitter's flags in the high byte of XM_SYS_CTRL.
 fn flags(full: u16, busy: u16) -> u8
-    ensures { λ r. ⌜ r ≡ cond (isSet full) 64 0 + cond (isSet busy) 32 0 ⌝ }
+    ensures { λ r. ⌜ r ≡ flagBits (record { full = isSet full; busy = isSet busy }) ⌝ }
 {
-    if full == 1 {
-        if busy == 1 { 96 } else { 64 }
-    } else {
-        if busy == 1 { 32 } else { 0 }
-    }
+    flag(full, BLITTER_FULL) + flag(busy, BLITTER_BUSY)
 }
 
 // The byte of an even read.
 fn high_byte(s: &[u16], reg: u8) -> u8
-    requires { ⌜ length (now s) ≡ 75 ⌝ }
+    requires { ⌜ length (now s) ≡ stateWords ⌝ }
     requires { ⌜ inRange (stateAt (now s)) ≡ true ⌝ }
     ensures { λ r. ⌜
-        r ≡ highByte (stateAt (now (s .entry)) .host) (isSet (stateAt (now (s .entry)) .queued))
-        (isSet (stateAt (now (s .entry)) .engine .running)) reg
+        r ≡ highByte (stateAt (now (s .entry)) .host) (flagsOf (stateAt (now (s .entry)))) reg
         ⌝ }
 {
     match reg {
@@ -75,7 +80,7 @@ fn high_byte(s: &[u16], reg: u8) -> u8
 
 // The byte of an odd read.
 fn low_byte(s: &[u16], reg: u8) -> u8
-    requires { ⌜ length (now s) ≡ 75 ⌝ }
+    requires { ⌜ length (now s) ≡ stateWords ⌝ }
     requires { ⌜ inRange (stateAt (now s)) ≡ true ⌝ }
     ensures { λ r. ⌜ r ≡ lowByte (stateAt (now (s .entry)) .host) (stateAt (now (s .entry)) .status) reg ⌝ }
 {
@@ -89,7 +94,7 @@ fn low_byte(s: &[u16], reg: u8) -> u8
 
 // The byte of a read.
 pub fn byte_read(s: &[u16], reg: u8, odd: bool) -> u8
-    requires { ⌜ length (now s) ≡ 75 ⌝ }
+    requires { ⌜ length (now s) ≡ stateWords ⌝ }
     requires { ⌜ inRange (stateAt (now s)) ≡ true ⌝ }
     ensures { λ r. ⌜ ((v x : List ℕ) → r ≡ given (adapterAt (now (s .entry)) v x) (call (read reg odd))) ⌝ }
 {

@@ -9,14 +9,15 @@ use borrow.Author.Tests.{lt-ltb}
 use lib.ListN.{length, getD, set}
 use Rattle.xosera.specs.State.{State, stateWords, wordsFrom, stateBy, wordAt, stateAt}
 use Rattle.xosera.specs.Memories.{stored}
-use Rattle.xosera.specs.Adapter.{changed, adapter, adapterAt, withLatches}
+use Rattle.xosera.specs.Adapter.{adapter, adapterAt, withLatches}
+use Rattle.xosera.specs.Plan.{changed, perform}
 use Rattle.xosera.specs.HostBytes.{latched, writeByte}
-use Rattle.xosera.specs.Calls.{perform}
-use Rattle.xosera.proofs.WordLaws.{put, _takes_, stored-state, _and_, below}
+use Rattle.xosera.proofs.Tables.{_and_, below-each}
+use Rattle.xosera.proofs.WordLaws.{put, _takes_, stored-state}
 
 latch-word : (word : ℕ → ℕ) (r : ℕ) → r < 16 → word r ≡ getD (wordsFrom 16 0 word) r 0
 latch-word word =
-    below (λ (r : ℕ). word r ≡ getD (wordsFrom 16 0 word) r 0) 16
+    below-each (λ (r : ℕ). word r ≡ getD (wordsFrom 16 0 word) r 0) 16
     (refl and refl and refl and refl and refl and refl and refl and refl
     and refl and refl and refl and refl and refl and refl and refl and refl and tt)
 
@@ -37,7 +38,7 @@ withLatch s r b = record {
 
 latch-put : (word : ℕ → ℕ) (b r : ℕ) → r < 16 → stateBy (put r b word) ≡ withLatch (stateBy word) r b
 latch-put word b =
-    below (λ (r : ℕ). stateBy (put r b word) ≡ withLatch (stateBy word) r b) 16
+    below-each (λ (r : ℕ). stateBy (put r b word) ≡ withLatch (stateBy word) r b) 16
     (refl and refl and refl and refl and refl and refl and refl and refl
     and refl and refl and refl and refl and refl and refl and refl and refl and tt)
 

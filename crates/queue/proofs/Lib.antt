@@ -1,5 +1,5 @@
 -- Laws of the running and the queued blit that belong to no one function.
 pub mod Starts
-pub mod OneBlit
+pub mod OneBlitLaws
 pub mod TwoBlits
 pub mod OneStep

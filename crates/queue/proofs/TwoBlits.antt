@@ -8,23 +8,16 @@ use native.Mathlib.Decide.{ℕ-discrete}
 use Rattle.xosera.specs.State.{State, isSet}
 use Rattle.xosera.specs.Adapter.{adapter}
 use Rattle.xosera.specs.Blitter.{steps, wordsLeft}
-use Rattle.xosera.proofs.EngineLaws.{idle-left}
-use Rattle.xosera.proofs.StepLaws.{steps-idle}
-use Rattle.queue.specs.Work.{Ready, OneBlit}
-use Rattle.queue.proofs.OneBlit.{idle-unqueued}
+use Rattle.xosera.proofs.StepLaws.{steps-idle, idle-none-left}
+use Rattle.queue.specs.OneBlit.{OneBlit}
 
--- An idle state has no words left.
-pub none-left : (s : State) (v x : List ℕ) → Ready s → isSet (s .engine .running) ≡ false → wordsLeft (adapter s v x) ≡ 0
-unfolding wordsLeft
-none-left s v x r h = rw (idle-left (s .engine) h, idle-unqueued s r h)
-
--- With no steps left over a second run has nothing to do.
+-- With no rest a second run has nothing to do.
 pub none-over : {s : State} {v : List ℕ} {n : ℕ} {t : State} {u : List ℕ} {k : ℕ} → OneBlit s v n t u k → k ≡ 0 → OneBlit t u k t u k
 none-over one z = record {
   reached = λ x. refl;
   words-left = λ x. refl;
   fewer = omega arith;
-  ready = one .ready;
+  in-range = one .in-range;
   vram-length = refl;
   unqueued = λ h. absurd (h z);
   idle = λ h _. absurd (h z);
@@ -32,7 +25,7 @@ none-over one z = record {
 
 module _ {s : State} {v : List ℕ} {n : ℕ} {t : State} {u : List ℕ} {k : ℕ} {f : State} {w : List ℕ} {l : ℕ}
     (one : OneBlit s v n t u k) (two : OneBlit t u k f w l) (x : List ℕ) where
-  -- If steps are left over, the engine is idle.
+  -- If there is a rest, the engine is idle.
   over : (l ≡ 0 → ⊥) → isSet (f .engine .running) ≡ false
   over h = two .idle h (one .unqueued (λ z. h (none z)))
     where
@@ -58,4 +51,4 @@ module _ {s : State} {v : List ℕ} {n : ℕ} {t : State} {u : List ℕ} {k : �
 
       count : Dec (l ≡ 0) → n - l ≡ min n (wordsLeft (adapter s v x))
       count (yes z) = omega (arith, total)
-      count (no h) = omega (arith, total, none-left f w x (two .ready) (over h), one .fewer, two .fewer)
+      count (no h) = omega (arith, total, idle-none-left (adapter f w x) (two .in-range) (over h), one .fewer, two .fewer)

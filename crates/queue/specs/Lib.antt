@@ -1,2 +1,2 @@
--- What blit steps need of the state, and what some of them come to.
-pub mod Work
+-- What some steps of the running blit come to.
+pub mod OneBlit

@@ -1,4 +1,5 @@
 // Blit steps on the words of the state: the running blit, its end, and the queued one after it.
+use xosera::BLIT_DONE;
 use xosera::Engine;
 use xosera::QUEUED;
 use xosera::RUNNING;
@@ -8,16 +9,17 @@ ghost use mathlib.Core.Bool.{true};
 ghost use mathlib.Core.List.{List};
 ghost use Prim.Native.Nat.{ℕ, _-_, _≤_, min};
 ghost use lib.ListN.{length};
-ghost use Rattle.xosera.specs.State.{isSet, stateAt};
+ghost use Rattle.xosera.specs.State.{isSet, stateWords, stateAt};
 ghost use Rattle.xosera.specs.Memories.{isVramLength};
 ghost use Rattle.xosera.specs.Adapter.{adapterAt};
-ghost use Rattle.xosera.specs.Blitter.{succeeding, stepped, steps, wordsLeft};
-ghost use Rattle.queue.specs.Work.{startedState, endedState, Ready, OneBlit};
+ghost use Rattle.xosera.specs.Blitter.{blitStarted, blitEnded, succeeding, stepped, steps, wordsLeft};
+ghost use Rattle.xosera.specs.Ranges.{inRange};
+ghost use Rattle.queue.specs.OneBlit.{OneBlit};
 
 // A blit is started on an idle engine, and queued on a running one.
 pub fn start(s: &mut [u16])
-    requires { ⌜ length (now s) ≡ 75 ⌝ }
-    ensures { λ _. ⌜ stateAt (now (s .exit)) ≡ startedState (stateAt (now (s .entry))) ⌝ }
+    requires { ⌜ length (now s) ≡ stateWords ⌝ }
+    ensures { λ _. ⌜ ((v x : List ℕ) → adapterAt (now (s .exit)) v x ≡ blitStarted (adapterAt (now (s .entry)) v x)) ⌝ }
 {
     let was = s[RUNNING];
     s[QUEUED] = was;
@@ -30,7 +32,7 @@ pub fn start(s: &mut [u16])
 
 // The engine after a blit's end: the queued blit's, if any.
 fn successor(s: &[u16]) -> Engine
-    requires { ⌜ length (now s) ≡ 75 ⌝ }
+    requires { ⌜ length (now s) ≡ stateWords ⌝ }
     ensures { λ r. ⌜ r ≡ succeeding (isSet (stateAt (now (s .entry)) .queued)) (stateAt (now (s .entry)) .blit) ⌝ }
 {
     if s[QUEUED] == 1 {
@@ -41,41 +43,41 @@ fn successor(s: &[u16]) -> Engine
 
 // A blit's end: status bit 6, and the queued blit started, if any.
 fn end_blit(s: &mut [u16])
-    requires { ⌜ length (now s) ≡ 75 ⌝ }
-    ensures { λ _. ⌜ stateAt (now (s .exit)) ≡ endedState (stateAt (now (s .entry))) ⌝ }
+    requires { ⌜ length (now s) ≡ stateWords ⌝ }
+    ensures { λ _. ⌜ ((v x : List ℕ) → adapterAt (now (s .exit)) v x ≡ blitEnded (adapterAt (now (s .entry)) v x)) ⌝ }
 {
     let e = successor(s);
-    s[STATUS] = s[STATUS] | 64;
+    s[STATUS] = s[STATUS] | BLIT_DONE;
     s[QUEUED] = 0;
     engine_words::put_engine(s, e);
 }
 
 // One blit step. The answer is the number of words done.
 pub fn step(s: &mut [u16], vram: &mut [u16]) -> u64
-    requires { ⌜ length (now s) ≡ 75 ⌝ }
+    requires { ⌜ length (now s) ≡ stateWords ⌝ }
     requires { ⌜ isVramLength (length (now vram)) ≡ true ⌝ }
-    requires { ⌜ Ready (stateAt (now s)) ⌝ }
+    requires { ⌜ inRange (stateAt (now s)) ≡ true ⌝ }
     ensures after { λ _. ⌜ ((x : List ℕ) → adapterAt (now (s .exit)) (now (vram .exit)) x ≡ stepped (adapterAt (now (s .entry)) (now (vram .entry)) x)) ⌝ }
-    ensures counted { λ r. ⌜ ((x : List ℕ) → r ≡ min 1 (wordsLeft (adapterAt (now (s .entry)) (now (vram .entry)) x))) ⌝ }
+    ensures count { λ r. ⌜ ((x : List ℕ) → r ≡ min 1 (wordsLeft (adapterAt (now (s .entry)) (now (vram .entry)) x))) ⌝ }
 {
     let e = engine_words::engine_of(s);
     if e.running != 1 {
         return 0;
     }
-    let raw = engine::draw(e, vram);
+    let word = engine::draw(e, vram);
     if engine::last_step(e) {
         end_blit(s);
         return 1;
     }
-    engine_words::move_on(s, engine::advance(e, raw));
+    engine_words::move_on(s, engine::advance(e, word));
     1
 }
 
-// Up to n steps of the running blit alone. The answer is the number of steps left over.
+// Up to n steps of the running blit alone. The answer is the rest of the steps.
 fn run_one(s: &mut [u16], vram: &mut [u16], n: u64) -> u64
-    requires { ⌜ length (now s) ≡ 75 ⌝ }
+    requires { ⌜ length (now s) ≡ stateWords ⌝ }
     requires { ⌜ isVramLength (length (now vram)) ≡ true ⌝ }
-    requires { ⌜ Ready (stateAt (now s)) ⌝ }
+    requires { ⌜ inRange (stateAt (now s)) ≡ true ⌝ }
     ensures { λ r. ⌜ OneBlit (stateAt (now (s .entry))) (now (vram .entry)) n (stateAt (now (s .exit))) (now (vram .exit)) r ⌝ }
 {
     let e = engine_words::engine_of(s);
@@ -85,24 +87,24 @@ fn run_one(s: &mut [u16], vram: &mut [u16], n: u64) -> u64
     let ran = engine::run_blit(e, vram, n);
     if ran.over {
         end_blit(s);
-        return ran.left;
+        return ran.rest;
     }
     let going = ran.engine;
     engine_words::put_engine(s, going);
     0
 }
 
-// Up to n steps of the running blit and the queued one. The answer is the number of steps left over.
+// Up to n steps of the running blit and the queued one. The answer is the rest of the steps.
 pub fn run(s: &mut [u16], vram: &mut [u16], n: u64) -> u64
-    requires { ⌜ length (now s) ≡ 75 ⌝ }
+    requires { ⌜ length (now s) ≡ stateWords ⌝ }
     requires { ⌜ isVramLength (length (now vram)) ≡ true ⌝ }
-    requires { ⌜ Ready (stateAt (now s)) ⌝ }
+    requires { ⌜ inRange (stateAt (now s)) ≡ true ⌝ }
     ensures after { λ _. ⌜ ((x : List ℕ) → adapterAt (now (s .exit)) (now (vram .exit)) x ≡ steps n (adapterAt (now (s .entry)) (now (vram .entry)) x)) ⌝ }
-    ensures counted { λ r. ⌜ ((x : List ℕ) → (r ≤ n) × (n - r ≡ min n (wordsLeft (adapterAt (now (s .entry)) (now (vram .entry)) x)))) ⌝ }
+    ensures count { λ r. ⌜ ((x : List ℕ) → (r ≤ n) × (n - r ≡ min n (wordsLeft (adapterAt (now (s .entry)) (now (vram .entry)) x)))) ⌝ }
 {
-    let left = run_one(s, vram, n);
-    if left == 0 {
-        return left;
+    let rest = run_one(s, vram, n);
+    if rest == 0 {
+        return rest;
     }
-    run_one(s, vram, left)
+    run_one(s, vram, rest)
 }

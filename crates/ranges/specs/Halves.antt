@@ -2,7 +2,7 @@
 use mathlib.Core.Bool.{Bool, _&&_}
 use lib.Dec.{leb}
 use Rattle.xosera.specs.State.{State}
-use Rattle.xosera.specs.Refusals.{hostInRange, engineInRange}
+use Rattle.xosera.specs.Ranges.{hostInRange, engineInRange}
 
 -- The main registers and the interrupt status.
 unfoldable pub registersInRange : State → Bool

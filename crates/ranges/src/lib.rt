@@ -16,6 +16,7 @@ use xosera::NIBBLES;
 use xosera::QUEUED;
 use xosera::RUNNING;
 use xosera::SAVED;
+use xosera::STATE_WORDS;
 use xosera::STATUS;
 use xosera::WORD;
 ghost use mathlib.Core.Path.{_≡_};
@@ -23,9 +24,9 @@ ghost use mathlib.Core.List.{[], _∷_};
 ghost use Prim.Native.Nat.{_+_, _<_};
 ghost use lib.Dec.{eqb};
 ghost use Rattle.xosera.specs.State.{wordAt, stateAt};
+ghost use Rattle.xosera.specs.Ranges.{timerInRange, areBytes, runningInRange, idleInRange, engineInRange};
 ghost use Rattle.ranges.specs.Lanes.{Lanes};
 ghost use Rattle.ranges.specs.Halves.{registersInRange, blitterInRange};
-ghost use Rattle.xosera.specs.Refusals.{timerInRange, areBytes, runningInRange, idleInRange, engineInRange};
 
 // Four words as one number, the first lowest.
 fn packed(a: u16, b: u16, c: u16, d: u16) -> u64
@@ -36,7 +37,7 @@ fn packed(a: u16, b: u16, c: u16, d: u16) -> u64
 
 // Four words that stand together. With the place as a parameter the compiler makes one read of this, and keeps it one
 // where it puts the function into its callers.
-fn four(s: &[u16; 75], k: usize) -> u64
+fn four(s: &[u16; STATE_WORDS], k: usize) -> u64
     requires { ⌜ k < 72 ⌝ }
     ensures { λ r. ⌜
         Lanes (wordAt (now (s .entry)) k) (wordAt (now (s .entry)) (k + 1)) (wordAt (now (s .entry)) (k + 2))
@@ -47,7 +48,7 @@ fn four(s: &[u16; 75], k: usize) -> u64
 }
 
 // Countdown 1 to its interval, or both 0.
-fn timer_in_range(s: &[u16; 75]) -> bool
+fn timer_in_range(s: &[u16; STATE_WORDS]) -> bool
     ensures { λ r. ⌜ r ≡ timerInRange (stateAt (now (s .entry)) .host .timer) ⌝ }
 {
     if s[COUNTDOWN] == s[INTERVAL] {
@@ -60,7 +61,7 @@ fn timer_in_range(s: &[u16; 75]) -> bool
 }
 
 // The high bytes of four words that stand together: none where the words are bytes.
-fn high_bytes(s: &[u16; 75], k: usize) -> u64
+fn high_bytes(s: &[u16; STATE_WORDS], k: usize) -> u64
     requires { ⌜ k < 72 ⌝ }
     ensures { λ r. ⌜
         eqb r 0 ≡ areBytes (wordAt (now (s .entry)) k ∷ wordAt (now (s .entry)) (k + 1) ∷ wordAt (now (s .entry)) (k + 2)
@@ -71,7 +72,7 @@ fn high_bytes(s: &[u16; 75], k: usize) -> u64
 }
 
 // Sixteen latches that are bytes.
-fn latches_in_range(s: &[u16; 75]) -> bool
+fn latches_in_range(s: &[u16; STATE_WORDS]) -> bool
     ensures { λ r. ⌜ r ≡ areBytes (stateAt (now (s .entry)) .host .latches) ⌝ }
 {
     let low = high_bytes(s, LATCHES) | high_bytes(s, LATCHES + 4);
@@ -80,7 +81,7 @@ fn latches_in_range(s: &[u16; 75]) -> bool
 }
 
 // The main registers and the interrupt status, in the order of the definitions.
-pub fn registers_in_range(s: &[u16; 75]) -> bool
+pub fn registers_in_range(s: &[u16; STATE_WORDS]) -> bool
     ensures { λ r. ⌜ r ≡ registersInRange (stateAt (now (s .entry))) ⌝ }
 {
     if s[NIBBLES] > 15 {
@@ -101,7 +102,7 @@ pub fn registers_in_range(s: &[u16; 75]) -> bool
     s[STATUS] <= 127
 }
 
-fn running_in_range(s: &[u16; 75]) -> bool
+fn running_in_range(s: &[u16; STATE_WORDS]) -> bool
     ensures { λ r. ⌜ r ≡ runningInRange (stateAt (now (s .entry)) .engine) ⌝ }
 {
     if s[ENGINE_LINES] > 32767 {
@@ -120,7 +121,7 @@ fn running_in_range(s: &[u16; 75]) -> bool
 }
 
 // The flag and thirteen words that are all 0. Two of them are read twice.
-fn idle_in_range(s: &[u16; 75]) -> bool
+fn idle_in_range(s: &[u16; STATE_WORDS]) -> bool
     ensures { λ r. ⌜ r ≡ idleInRange (stateAt (now (s .entry)) .engine) ⌝ }
 {
     let low = four(s, RUNNING) | four(s, ENGINE_CTRL);
@@ -128,7 +129,7 @@ fn idle_in_range(s: &[u16; 75]) -> bool
     (low | high) == 0
 }
 
-fn engine_in_range(s: &[u16; 75]) -> bool
+fn engine_in_range(s: &[u16; STATE_WORDS]) -> bool
     ensures { λ r. ⌜ r ≡ engineInRange (stateAt (now (s .entry)) .engine) ⌝ }
 {
     if s[RUNNING] == 1 {
@@ -139,7 +140,7 @@ fn engine_in_range(s: &[u16; 75]) -> bool
 }
 
 // The queue and the engine.
-pub fn blitter_in_range(s: &[u16; 75]) -> bool
+pub fn blitter_in_range(s: &[u16; STATE_WORDS]) -> bool
     ensures { λ r. ⌜ r ≡ blitterInRange (stateAt (now (s .entry))) ⌝ }
 {
     if s[QUEUED] > s[RUNNING] {

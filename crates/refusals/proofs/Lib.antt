@@ -1,3 +1,3 @@
 -- Laws of refusals that belong to no one function.
 pub mod Accepted
-pub mod Order
+pub mod RefusalOrder

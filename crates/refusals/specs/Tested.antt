@@ -4,15 +4,16 @@ use mathlib.Core.List.{List, [], _∷_}
 use Prim.Native.Nat.{ℕ}
 use Rattle.xosera.specs.State.{State}
 use Rattle.xosera.specs.Memories.{isVramLength, isXrLength}
-use Rattle.xosera.specs.Refusals.{inRange, Test, _when_, first}
+use Rattle.xosera.specs.Ranges.{inRange}
+use Rattle.xosera.specs.Refusals.{Test, _when_, first}
 
 -- Refusals 1 and 2 by the lengths of the memories.
 unfoldable pub lengthsRefusal : ℕ → ℕ → ℕ
 lengthsRefusal vram xr = first ((1 when not (isVramLength vram)) ∷ (2 when not (isXrLength xr)) ∷ [])
 
 -- Refusals 1 to 3 by the lengths of the memories and the state, then the tests that follow.
-abbrev pub lentTests : ℕ → ℕ → State → List Test → List Test
-lentTests vram xr s more = (1 when not (isVramLength vram)) ∷ (2 when not (isXrLength xr)) ∷ (3 when not (inRange s)) ∷ more
+abbrev pub lengthTests : ℕ → ℕ → State → List Test → List Test
+lengthTests vram xr s more = (1 when not (isVramLength vram)) ∷ (2 when not (isXrLength xr)) ∷ (3 when not (inRange s)) ∷ more
 
 unfoldable pub lentRefusal : ℕ → ℕ → State → ℕ
-lentRefusal vram xr s = first (lentTests vram xr s [])
+lentRefusal vram xr s = first (lengthTests vram xr s [])

@@ -1,6 +1,7 @@
 // The refusals of every call: the first that applies, in their order. Where a function takes `registers`, its caller has
 // tested the registers already, so that the function is short enough for the compiler to put it into every call.
 use xosera::QUEUED;
+use xosera::STATE_WORDS;
 use xosera::WR_XADDR;
 ghost use mathlib.Core.Path.{_≡_};
 ghost use mathlib.Core.Bool.{Bool, true, not, _&&_};
@@ -11,12 +12,13 @@ ghost use Rattle.xosera.specs.State.{isSet, stateAt};
 ghost use Rattle.xosera.specs.Adapter.{adapterAt};
 ghost use Rattle.xosera.specs.XrSpace.{isBlitRegister};
 ghost use Rattle.xosera.specs.Events.{write, read, call};
-ghost use Rattle.xosera.specs.Refusals.{inRange, blitterFull, reconfigures, _when_, first, refusal};
+ghost use Rattle.xosera.specs.Ranges.{inRange};
+ghost use Rattle.xosera.specs.Refusals.{blitterFull, reconfigures, _when_, first, refusal};
 ghost use Rattle.ranges.specs.Halves.{registersInRange};
 ghost use Rattle.refusals.specs.Tested.{lengthsRefusal, lentRefusal};
 
 // Refusal 3, the only one of a timer tick, a frame end and the line question.
-pub fn state_refusal(s: &[u16; 75], registers: bool) -> u8
+pub fn state_refusal(s: &[u16; STATE_WORDS], registers: bool) -> u8
     requires { ⌜ registers ≡ registersInRange (stateAt (now s)) ⌝ }
     ensures { λ r. ⌜ r ≡ first ((3 when not (inRange (stateAt (now (s .entry))))) ∷ []) ⌝ }
 {
@@ -40,7 +42,7 @@ fn lengths_refusal(vram: usize, xr: usize) -> u8
 }
 
 // Refusals 1 to 3, those of a blit step and a run and the first of a byte read.
-pub fn lent_refusal(s: &[u16; 75], registers: bool, vram: usize, xr: usize) -> u8
+pub fn lent_refusal(s: &[u16; STATE_WORDS], registers: bool, vram: usize, xr: usize) -> u8
     requires { ⌜ registers ≡ registersInRange (stateAt (now s)) ⌝ }
     ensures { λ r. ⌜ r ≡ lentRefusal vram xr (stateAt (now (s .entry))) ⌝ }
 {
@@ -52,7 +54,7 @@ pub fn lent_refusal(s: &[u16; 75], registers: bool, vram: usize, xr: usize) -> u
 }
 
 // Refusals 1 to 4, those of a byte read.
-pub fn read_refusal(s: &[u16; 75], registers: bool, vram: usize, xr: usize, reg: u8) -> u8
+pub fn read_refusal(s: &[u16; STATE_WORDS], registers: bool, vram: usize, xr: usize, reg: u8) -> u8
     requires { ⌜ registers ≡ registersInRange (stateAt (now s)) ⌝ }
     ensures { λ r. ⌜ ((v x : List ℕ) (odd : Bool) → length v ≡ vram → length x ≡ xr → r ≡ refusal (adapterAt (now (s .entry)) v x) (call (read reg odd))) ⌝ }
 {
@@ -67,7 +69,7 @@ pub fn read_refusal(s: &[u16; 75], registers: bool, vram: usize, xr: usize, reg:
 }
 
 // Whether XM_XDATA would reach a blitter register while a blit is queued.
-fn is_full(s: &[u16; 75]) -> bool
+fn is_full(s: &[u16; STATE_WORDS]) -> bool
     ensures { λ r. ⌜ r ≡ (isBlitRegister (stateAt (now (s .entry)) .host .xr .wrxaddr .0) && isSet (stateAt (now (s .entry)) .queued)) ⌝ }
 {
     if !xr_memory::within(0x40, 10, s[WR_XADDR]) {
@@ -77,7 +79,7 @@ fn is_full(s: &[u16; 75]) -> bool
 }
 
 // Refusals 5 and 6, those of an odd write alone.
-fn odd_refusal(s: &[u16; 75], reg: u8, byte: u8) -> u8
+fn odd_refusal(s: &[u16; STATE_WORDS], reg: u8, byte: u8) -> u8
     requires { ⌜ reg < 16 ⌝ }
     requires { ⌜ getD (stateAt (now s) .host .latches) reg 0 ≤ 255 ⌝ }
     ensures { λ r. ⌜
@@ -99,7 +101,14 @@ fn odd_refusal(s: &[u16; 75], reg: u8, byte: u8) -> u8
 
 // Refusals 1 to 6, those of a byte write. It tests the registers itself, between the lengths and the blitter: here that is
 // faster.
-pub fn write_refusal(s: &[u16; 75], vram: usize, xr: usize, reg: u8, odd: bool, byte: u8) -> u8
+pub fn write_refusal(
+    s: &[u16; STATE_WORDS],
+    vram: usize,
+    xr: usize,
+    reg: u8,
+    odd: bool,
+    byte: u8,
+) -> u8
     ensures { λ r. ⌜ ((v x : List ℕ) → length v ≡ vram → length x ≡ xr → r ≡ refusal (adapterAt (now (s .entry)) v x) (call (write reg odd byte))) ⌝ }
 {
     let lengths = lengths_refusal(vram, xr);

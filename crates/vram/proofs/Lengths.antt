@@ -23,9 +23,9 @@ nine P a b c d e f g h i n =
     is : (k : ℕ) → P k → eqb n k ≡ true → P n
     is k p t = subst P (sym (eqb-true n k t)) p
 
-pub length-bounds : (n : ℕ) → isVramLength n ≡ true → (1 ≤ n) × (n ≤ 65536)
+pub length-bounds : (n : ℕ) → isVramLength n ≡ true → (256 ≤ n) × (n ≤ 65536)
 length-bounds =
-    nine (λ (n : ℕ). (1 ≤ n) × (n ≤ 65536)) (omega arith) (omega arith) (omega arith) (omega arith) (omega arith) (omega arith) (omega arith)
+    nine (λ (n : ℕ). (256 ≤ n) × (n ≤ 65536)) (omega arith) (omega arith) (omega arith) (omega arith) (omega arith) (omega arith) (omega arith)
     (omega arith) (omega arith)
 
 pub masked : (a n : ℕ) → isVramLength n ≡ true → bitAnd a (n - 1) ≡ a % n

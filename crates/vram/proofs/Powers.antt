@@ -9,8 +9,8 @@ use borrow.Author.Tests.{lt-leb, eq-eqb, ne-eqb}
 use lib.Bits.{bitAnd, and-step, and-self}
 use lib.Dec.{T, eqb, leb}
 use Rattle.xosera.specs.Memories.{isVramLength}
-use Rattle.words.proofs.Finite.{below}
-use Rattle.vram.proofs.Lengths.{nine}
+use Rattle.xosera.proofs.Tables.{below-tested}
+use Rattle.vram.proofs.Lengths.{nine, length-bounds}
 
 power : (P : ℕ → Type 0) (k : ℕ) → ((j : ℕ) → j ≤ k → P (2 ^ j)) → (n : ℕ) → 1 ≤ n → n ≤ 2 ^ k → bitAnd n (n - 1) ≡ 0 → P n
 power P zero at n lo hi z = subst P (omega (arith, lo, hi)) (at 0 (omega arith))
@@ -42,7 +42,7 @@ pub power-length : (n : ℕ) → 256 ≤ n → n ≤ 65536 → bitAnd n (n - 1) 
 unfolding isVramLength
 power-length n lo hi z =
     power (λ (m : ℕ). 256 ≤ m → isVramLength m ≡ true) 16
-    (λ j l h. left-out (leb (2 ^ j) 255) (isVramLength (2 ^ j)) (below 17 listed tt j (omega (arith, l))) (lt-leb (2 ^ j) 255 (omega (arith, h))))
+    (λ j l h. left-out (leb (2 ^ j) 255) (isVramLength (2 ^ j)) (below-tested 17 listed tt j (omega (arith, l))) (lt-leb (2 ^ j) 255 (omega (arith, h))))
     n (omega (arith, lo)) hi z lo
 
 pub length-power : (n : ℕ) → isVramLength n ≡ true → bitAnd n (n - 1) ≡ 0
@@ -61,11 +61,6 @@ tested n lo hi = pick (isVramLength n) refl (ℕ-discrete (bitAnd n (n - 1)) 0)
 pub no-length : (n : ℕ) → (256 ≤ n → n ≤ 65536 → ⊥) → false ≡ isVramLength n
 no-length n out = pick (isVramLength n) refl
   where
-    bounds : (n : ℕ) → isVramLength n ≡ true → (256 ≤ n) × (n ≤ 65536)
-    bounds =
-        nine (λ (n : ℕ). (256 ≤ n) × (n ≤ 65536))
-        (omega arith) (omega arith) (omega arith) (omega arith) (omega arith) (omega arith) (omega arith) (omega arith) (omega arith)
-
     pick : (b : Bool) → isVramLength n ≡ b → false ≡ isVramLength n
-    pick true e = absurd (out (bounds n e .0) (bounds n e .1))
+    pick true e = absurd (out (length-bounds n e .0) (length-bounds n e .1))
     pick false e = sym e

@@ -11,14 +11,15 @@ ghost use mathlib.Core.Bool.{true};
 ghost use mathlib.Core.List.{List};
 ghost use Prim.Native.Nat.{ℕ};
 ghost use lib.ListN.{length};
+ghost use Rattle.xosera.specs.State.{stateWords};
 ghost use Rattle.xosera.specs.Memories.{isVramLength};
 ghost use Rattle.xosera.specs.Adapter.{Side};
 ghost use Rattle.xosera.specs.HostBytes.{vramLoad, writeData, readData};
-ghost use Rattle.xosera.specs.Calls.{Performs};
+ghost use Rattle.xosera.specs.Plan.{Performs};
 
 // XM_RD_ADDR set, and the read buffer loaded from there.
 pub fn load(s: &mut [u16], vram: &[u16], a: VramAddr)
-    requires { ⌜ length (now s) ≡ 75 ⌝ }
+    requires { ⌜ length (now s) ≡ stateWords ⌝ }
     requires { ⌜ isVramLength (length (now vram)) ≡ true ⌝ }
     ensures { λ _. ⌜
         ((x : List ℕ) → Performs (λ (side : Side). vramLoad side (a .0)) (now (s .entry)) (now (vram .entry)) x (now (s .exit))
@@ -32,7 +33,7 @@ pub fn load(s: &mut [u16], vram: &[u16], a: VramAddr)
 
 // An odd read: XM_RD_INCR is added to XM_RD_ADDR and the buffer is loaded again.
 pub fn read(s: &mut [u16], vram: &[u16])
-    requires { ⌜ length (now s) ≡ 75 ⌝ }
+    requires { ⌜ length (now s) ≡ stateWords ⌝ }
     requires { ⌜ isVramLength (length (now vram)) ≡ true ⌝ }
     ensures { λ _. ⌜ ((x : List ℕ) → Performs readData (now (s .entry)) (now (vram .entry)) x (now (s .exit)) (now (vram .entry)) x) ⌝ }
 {
@@ -42,7 +43,7 @@ pub fn read(s: &mut [u16], vram: &[u16])
 
 // An odd write: a store at XM_WR_ADDR under the nibble mask, and XM_WR_INCR added to the address.
 pub fn write(s: &mut [u16], vram: &mut [u16], w: u16)
-    requires { ⌜ length (now s) ≡ 75 ⌝ }
+    requires { ⌜ length (now s) ≡ stateWords ⌝ }
     requires { ⌜ isVramLength (length (now vram)) ≡ true ⌝ }
     ensures { λ _. ⌜
         ((x : List ℕ) → Performs (λ (side : Side). writeData side w) (now (s .entry)) (now (vram .entry)) x

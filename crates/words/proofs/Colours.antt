@@ -8,7 +8,8 @@ use lib.Bits.{bitAnd, bitOr, bitXor, and-block, or-block, xor-block, or-lt, xor-
 use lib.Dec.{eqb, eqb→eq}
 use Rattle.xosera.specs.Words.{bit, nibble, isColour, colourMask}
 use Rattle.words.specs.Spread.{spread}
-use Rattle.words.proofs.Finite.{below, ways}
+use Rattle.xosera.proofs.Tables.{below-tested}
+use Rattle.words.proofs.BothWays.{ways}
 use Rattle.words.proofs.Nibbles.{joined, split, nibble-lt}
 
 -- Two numbers are equal where their xor is 0.
@@ -32,7 +33,7 @@ found x = eqb (topsOf 7 8 x) (cond (eqb x 0) 0 8)
 -- One nibble of S and of T.
 single : (s t : ℕ) → s < 16 → t < 16 → topsOf 7 8 (bitXor s t) ≡ cond (eqb s t) 0 8
 single s t hs ht =
-    eqb→eq (topsOf 7 8 (bitXor s t)) (cond (eqb (bitXor s t) 0) 0 8) (below 16 found tt (bitXor s t) (xor-lt 4 s t hs ht))
+    eqb→eq (topsOf 7 8 (bitXor s t)) (cond (eqb (bitXor s t) 0) 0 8) (below-tested 16 found tt (bitXor s t) (xor-lt 4 s t hs ht))
     ∙ ap (λ (b : Bool). cond b 0 8) (xor-eqb s t)
 
 -- A nibble more.

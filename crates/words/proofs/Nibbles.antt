@@ -7,31 +7,15 @@ use lib.Bits.{bitAnd, bitOr, and-block, or-block, and-lt, and-zero-r, and-mask, 
 use lib.Dec.{T, eqb, eqb→eq}
 use Rattle.xosera.specs.Words.{bit, nibble, chosen, merged}
 use Rattle.words.specs.Spread.{spread}
-use Rattle.words.proofs.Finite.{allBelow, below}
+use Rattle.xosera.proofs.MaskLaws.{nibbles-sum}
+use Rattle.xosera.proofs.Tables.{allBelow, below-tested}
 
 -- A word of four nibbles, the highest first.
 abbrev pub joined : ℕ → ℕ → ℕ → ℕ → ℕ
 joined a b c d = ((a * 16 + b) * 16 + c) * 16 + d
 
--- Four digits by division, three times.
-folded : (w q r s a b c d : ℕ) → w ≡ q * 16 + d → q ≡ r * 16 + c → r ≡ s * 16 + b → s ≡ a → w ≡ joined a b c d
-folded w q r s a b c d e f g h = omega arith
-
-digit : (x : ℕ) → x ≡ x / 16 * 16 + x % 16
-digit x = omega arith
-
-small : (x : ℕ) → x < 16 → x ≡ x % 16
-small x h = omega arith
-
 pub split : (w : ℕ) → w < 65536 → w ≡ joined (nibble 3 w) (nibble 2 w) (nibble 1 w) (nibble 0 w)
-unfolding nibble
-split w h =
-    let a : w / 256 ≡ w / 16 / 16 = omega arith in
-    let b : w / 4096 ≡ w / 16 / 16 / 16 = omega arith in
-    let l : w / 4096 < 16 = omega arith in
-    let z : w / 1 ≡ w = omega arith in
-    let top = small (w / 16 / 16 / 16) (rw b at l) in
-    rw (a, b, z) (folded w (w / 16) (w / 16 / 16) (w / 16 / 16 / 16) _ _ _ _ (digit w) (digit (w / 16)) (digit (w / 16 / 16)) top)
+split w h = omega (arith, nibbles-sum w h)
 
 pub nibble-lt : (k w : ℕ) → nibble k w < 16
 unfolding nibble
@@ -131,7 +115,7 @@ right m = eqb (singled m * 15) (spread m)
 
 pub spread-by-product : (m : ℕ) → singled (m % 16) * 15 ≡ spread m
 unfolding spread bit right
-spread-by-product m = eqb→eq (singled (m % 16) * 15) (spread (m % 16)) (below 16 right tt (m % 16) (omega arith)) ∙ spread-cut m
+spread-by-product m = eqb→eq (singled (m % 16) * 15) (spread (m % 16)) (below-tested 16 right tt (m % 16) (omega arith)) ∙ spread-cut m
 
 -- What a mask's spread shows of it.
 abbrev pub gather : ℕ → ℕ
@@ -143,7 +127,7 @@ back m = eqb (gather (spread m)) m
 
 pub gather-spread : (m : ℕ) → gather (spread m) ≡ m % 16
 unfolding spread bit back
-gather-spread m = ap gather (sym (spread-cut m)) ∙ eqb→eq (gather (spread (m % 16))) (m % 16) (below 16 back tt (m % 16) (omega arith))
+gather-spread m = ap gather (sym (spread-cut m)) ∙ eqb→eq (gather (spread (m % 16))) (m % 16) (below-tested 16 back tt (m % 16) (omega arith))
 
 -- Masks taken together before or after they are spread.
 together : ℕ → ℕ → Bool
@@ -153,8 +137,8 @@ together m n = eqb (spread (bitAnd m n)) (bitAnd (spread m) (spread n))
 pub spread-and : (m n : ℕ) → spread (bitAnd m n) ≡ bitAnd (spread m) (spread n)
 unfolding spread bit together
 spread-and m n =
-    let all : T (allBelow 16 (together (m % 16))) = below 16 (λ (x : ℕ). allBelow 16 (together x)) tt (m % 16) (omega arith) in
-    let cut : T (together (m % 16) (n % 16)) = below 16 (together (m % 16)) all (n % 16) (omega arith) in
+    let all : T (allBelow 16 (together (m % 16))) = below-tested 16 (λ (x : ℕ). allBelow 16 (together x)) tt (m % 16) (omega arith) in
+    let cut : T (together (m % 16) (n % 16)) = below-tested 16 (together (m % 16)) all (n % 16) (omega arith) in
     sym (spread-cut (bitAnd m n)) ∙ ap spread (and-mod m n 4)
     ∙ eqb→eq (spread (bitAnd (m % 16) (n % 16))) (bitAnd (spread (m % 16)) (spread (n % 16))) cut
     ∙ ap₂ bitAnd (spread-cut m) (spread-cut n)

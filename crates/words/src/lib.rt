@@ -2,6 +2,7 @@
 ghost use mathlib.Core.Path.{_≡_};
 ghost use Prim.Native.Nat.{ℕ, _/_, _%_, _<_};
 ghost use Rattle.xosera.specs.Words.{bit, merged, shifted, combined, colourMask};
+ghost use Rattle.xosera.specs.Fields.{shiftCount};
 ghost use Rattle.xosera.specs.HostBytes.{wordOf};
 ghost use Rattle.words.specs.Spread.{spread};
 
@@ -53,7 +54,7 @@ pub fn blended(bits: u16, old: u16, new: u16) -> u16
 
 // The shifter: the low nibbles of the word before enter at the top.
 pub fn shifted(shift: u16, before: u16, s: u16) -> u16
-    ensures { λ r. ⌜ r ≡ shifted (shift % 4) before s ⌝ }
+    ensures { λ r. ⌜ r ≡ shifted (shiftCount shift) before s ⌝ }
 {
     let pair = (before as u32) * 65536 + (s as u32);
     ((pair >> ((shift % 4) * 4)) % 65536) as u16

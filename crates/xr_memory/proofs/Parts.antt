@@ -1,7 +1,7 @@
 -- The ranges of the XR space, and what lies in none of them.
 use mathlib.Core.Path.{_≡_, refl, sym, _∙_}
 use mathlib.Core.Bool.{Bool, true, false, _&&_}
-use mathlib.Core.List.{List, [], _∷_}
+use mathlib.Core.List.{List}
 use Prim.Native.Nat.{ℕ, _+_, _-_, _≤_, _<_}
 use native.Mathlib.Omega.{arith}
 use borrow.Author.Tests.{lt-leb, le-ltb}
@@ -9,7 +9,7 @@ use lib.Dec.{leb}
 use lib.ListN.{getD, take, drop, List·getD-eq-default}
 use lib.Seq.{getD-take, getD-drop}
 use Rattle.xosera.specs.State.{Video}
-use Rattle.xosera.specs.XrSpace.{within, registerRead}
+use Rattle.xosera.specs.XrSpace.{within, lowRegisters, registerRead}
 use Rattle.xosera.proofs.Branches.{parts}
 
 -- A test that the code made is the one that the definition names.
@@ -38,8 +38,7 @@ above-range base n a h = rw (le-ltb a (base + n) h) (and-false (leb base a))
 pub no-register : (v : Video) (a : ℕ) → 0x20 ≤ a → registerRead v a ≡ 0
 unfolding registerRead
 no-register v a h =
-    let listed : List ℕ = v .vidctrl ∷ v .coppctrl ∷ v .audctrl ∷ 0 ∷ v .vidleft ∷ v .vidright ∷ [] in
-    rw (above-range 0x10 7 a (omega arith), above-range 0x18 7 a (omega arith)) (List·getD-eq-default listed 0 {n = a} (omega arith))
+    rw (above-range 0x10 7 a (omega arith), above-range 0x18 7 a (omega arith)) (List·getD-eq-default (lowRegisters v) 0 {n = a} (omega arith))
 
 -- A word of a part is one of the whole.
 pub part-word : (xs : List ℕ) (from n i : ℕ) → i < n → getD (take n (drop from xs)) i 0 ≡ getD xs (from + i) 0

@@ -1,2 +1,2 @@
 -- Laws of XR writes that belong to no one function.
-pub mod Writes
+pub mod XrWrites

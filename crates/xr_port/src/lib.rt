@@ -1,4 +1,5 @@
 // The XR data port, XM_XDATA: reads through the read buffer, writes anywhere in the XR space.
+use xosera::FRAME_ENDED;
 use xosera::RD_XADDR;
 use xosera::STATUS;
 use xosera::WR_XADDR;
@@ -8,19 +9,20 @@ ghost use mathlib.Core.Path.{_≡_};
 ghost use mathlib.Core.List.{List};
 ghost use Prim.Native.Nat.{ℕ, _<_};
 ghost use lib.ListN.{length};
-ghost use Rattle.xosera.specs.Adapter.{Side, quiet};
+ghost use Rattle.xosera.specs.State.{stateWords};
+ghost use Rattle.xosera.specs.Adapter.{Side};
+ghost use Rattle.xosera.specs.Plan.{quiet, Performs};
 ghost use Rattle.xosera.specs.XrSpace.{xrWrite};
 ghost use Rattle.xosera.specs.HostBytes.{xrLoaded, writeXdata, readXdata};
-ghost use Rattle.xosera.specs.Calls.{Performs};
 
 // A write to a register: 0x03 sets status bit 4, 0x49 also starts or queues a blit.
 fn write_register(s: &mut [u16], at: u16, w: u16)
-    requires { ⌜ length (now s) ≡ 75 ⌝ }
+    requires { ⌜ length (now s) ≡ stateWords ⌝ }
     requires { ⌜ at < 0x4000 ⌝ }
     ensures { λ _. ⌜ ((v x : List ℕ) → Performs (λ (side : Side). xrWrite side at w) (now (s .entry)) v x (now (s .exit)) v x) ⌝ }
 {
     if at == 3 {
-        s[STATUS] = s[STATUS] | 16;
+        s[STATUS] = s[STATUS] | FRAME_ENDED;
         return;
     }
     xr_registers::store_register(s, at, w);
@@ -31,7 +33,7 @@ fn write_register(s: &mut [u16], at: u16, w: u16)
 
 // A write anywhere in the XR space.
 fn write_xr(s: &mut [u16], xr: &mut [u16], a: XrAddr, w: u16)
-    requires { ⌜ length (now s) ≡ 75 ⌝ }
+    requires { ⌜ length (now s) ≡ stateWords ⌝ }
     requires { ⌜ length (now xr) ≡ 6656 ⌝ }
     ensures { λ _. ⌜
         ((v : List ℕ) → Performs (λ (side : Side). xrWrite side (a .0) w) (now (s .entry)) v (now (xr .entry)) (now (s .exit)) v
@@ -48,7 +50,7 @@ fn write_xr(s: &mut [u16], xr: &mut [u16], a: XrAddr, w: u16)
 
 // An odd write: a store at XM_WR_XADDR, which goes up by 1.
 pub fn write(s: &mut [u16], xr: &mut [u16], w: u16)
-    requires { ⌜ length (now s) ≡ 75 ⌝ }
+    requires { ⌜ length (now s) ≡ stateWords ⌝ }
     requires { ⌜ length (now xr) ≡ 6656 ⌝ }
     ensures { λ _. ⌜ ((v : List ℕ) → Performs (λ (side : Side). writeXdata side w) (now (s .entry)) v (now (xr .entry)) (now (s .exit)) v (now (xr .exit))) ⌝ }
 {
@@ -59,7 +61,7 @@ pub fn write(s: &mut [u16], xr: &mut [u16], w: u16)
 
 // XM_RD_XADDR set, and the read buffer loaded from there.
 pub fn load(s: &mut [u16], xr: &[u16], a: XrAddr)
-    requires { ⌜ length (now s) ≡ 75 ⌝ }
+    requires { ⌜ length (now s) ≡ stateWords ⌝ }
     requires { ⌜ length (now xr) ≡ 6656 ⌝ }
     ensures { λ _. ⌜
         ((v : List ℕ) → Performs (λ (side : Side). quiet (xrLoaded side (a .0))) (now (s .entry)) v (now (xr .entry))
@@ -73,7 +75,7 @@ pub fn load(s: &mut [u16], xr: &[u16], a: XrAddr)
 
 // An odd read: XM_RD_XADDR goes up by 1 and the buffer is loaded again.
 pub fn read(s: &mut [u16], xr: &[u16])
-    requires { ⌜ length (now s) ≡ 75 ⌝ }
+    requires { ⌜ length (now s) ≡ stateWords ⌝ }
     requires { ⌜ length (now xr) ≡ 6656 ⌝ }
     ensures { λ _. ⌜ ((v : List ℕ) → Performs readXdata (now (s .entry)) v (now (xr .entry)) (now (s .exit)) v (now (xr .entry))) ⌝ }
 {

@@ -2,7 +2,7 @@
 use mathlib.Core.Path.{_≡_, refl, sym, ap, _∙_}
 use mathlib.Core.Bool.{cond}
 use mathlib.Core.List.{List, [], _∷_}
-use Prim.Native.Nat.{ℕ, zero, suc, _≤_, _<_}
+use Prim.Native.Nat.{ℕ, _≤_, _<_}
 use native.Mathlib.Omega.{arith}
 use native.Mathlib.Decide.{decLt}
 use borrow.Author.Tests.{ne-eqb, lt-ltb}
@@ -11,11 +11,13 @@ use lib.ListN.{length, getD, set, List·getD-eq-default}
 use Rattle.xosera.specs.declared.BlitRegs.{BlitRegs}
 use Rattle.xosera.specs.State.{Video, stateWords, stateBy, wordAt, stateAt}
 use Rattle.xosera.specs.XrSpace as XrSpace
-use Rattle.xosera.specs.XrSpace.{within, registerRead, playfieldRead, videoWrite, blitWrite}
-use Rattle.xosera.proofs.Branches.{cond-cases, none, _also_, getD-every}
-use Rattle.xosera.proofs.WordLaws.{put, _takes_, stored-state, _and_, below}
+use Rattle.xosera.specs.XrSpace.{within, isBlitRegister, registerRead, playfieldRead, videoWrite, blitWrite}
+use Rattle.xosera.proofs.Branches.{cond-cases}
+use Rattle.xosera.proofs.Tables.{_and_, getD-each, below-each}
+use Rattle.xosera.proofs.XrLaws.{blit-write-outside}
+use Rattle.xosera.proofs.WordLaws.{put, _takes_, stored-state}
 use Rattle.xr_memory.proofs.Parts.{inside, above-range}
-use Rattle.xr_registers.specs.Places.{registerPlace, registerWritten}
+use Rattle.xr_registers.specs.Places.{lowPlaces, registerPlace, registerWritten}
 
 -- Past the registers.
 module _ (a w : ℕ) (h : 0x4A ≤ a) where
@@ -37,32 +39,20 @@ module _ (a w : ℕ) (h : 0x4A ≤ a) where
       )
 
   pub no-blit : (r : BlitRegs) → blitWrite r a w ≡ r
-  unfolding blitWrite
-  no-blit r =
-      rw (
-        other 0x40 (r .ctrl) (omega arith),
-        other 0x41 (r .andc) (omega arith),
-        other 0x42 (r .xor) (omega arith),
-        other 0x43 (r .mods) (omega arith),
-        other 0x44 (r .srcs) (omega arith),
-        other 0x45 (r .modd) (omega arith),
-        other 0x46 (r .dstd) (omega arith),
-        other 0x47 (r .shift) (omega arith),
-        other 0x48 (r .lines) (omega arith),
-        other 0x49 (r .words) (omega arith),
-      )
+  unfolding isBlitRegister
+  no-blit r = blit-write-outside r a w (above-range 0x40 10 a (omega arith))
 
   pub no-place : registerPlace a ≡ stateWords
   unfolding registerPlace
   no-place =
       rw (above-range 0x10 7 a (omega arith), above-range 0x18 7 a (omega arith), above-range 0x40 10 a (omega arith))
-      (List·getD-eq-default (46 ∷ 47 ∷ 48 ∷ stateWords ∷ 49 ∷ 50 ∷ []) stateWords {n = a} (omega arith))
+      (List·getD-eq-default lowPlaces stateWords {n = a} (omega arith))
 
 -- A register's word written is the register written; a word past the state's is none of it.
 pub written-at : (word : ℕ → ℕ) (w a : ℕ) → a < 0x4A → stateBy (put (registerPlace a) w word) ≡ registerWritten (stateBy word) a w
 unfolding registerPlace within videoWrite blitWrite XrSpace.put
 written-at word w =
-    below (λ (a : ℕ). stateBy (put (registerPlace a) w word) ≡ registerWritten (stateBy word) a w) 0x4A
+    below-each (λ (a : ℕ). stateBy (put (registerPlace a) w word) ≡ registerWritten (stateBy word) a w) 0x4A
     (refl and refl and refl and refl and refl and refl and refl and refl and refl and refl and refl and refl and refl and refl and refl
     and refl and refl and refl and refl and refl and refl and refl and refl and refl and refl and refl and refl and refl and refl and refl
     and refl and refl and refl and refl and refl and refl and refl and refl and refl and refl and refl and refl and refl and refl and refl
@@ -74,7 +64,7 @@ pub read-at : (word : ℕ → ℕ) (a : ℕ) → a < 0x20 → (a ≡ 0x15 → �
     → cond (ltb (registerPlace a) stateWords) (word (registerPlace a)) 0 ≡ registerRead (stateBy word .video) a
 unfolding registerPlace within registerRead playfieldRead
 read-at word =
-    below (λ (a : ℕ). (a ≡ 0x15 → ⊥) → (a ≡ 0x1D → ⊥)
+    below-each (λ (a : ℕ). (a ≡ 0x15 → ⊥) → (a ≡ 0x1D → ⊥)
     → cond (ltb (registerPlace a) stateWords) (word (registerPlace a)) 0 ≡ registerRead (stateBy word .video) a) 0x20
     ((λ n m. refl) and (λ n m. refl) and (λ n m. refl) and (λ n m. refl) and (λ n m. refl) and (λ n m. refl)
     and (λ n m. refl) and (λ n m. refl) and (λ n m. refl) and (λ n m. refl) and (λ n m. refl) and (λ n m. refl)
@@ -85,14 +75,13 @@ read-at word =
 
 -- An address that is none of the five registers below 0x10 has no word.
 pub unlisted : (a : ℕ) → (a ≡ 0 → ⊥) → (a ≡ 1 → ⊥) → (a ≡ 2 → ⊥) → (a ≡ 4 → ⊥) → (a ≡ 5 → ⊥)
-    → stateWords ≡ getD (46 ∷ 47 ∷ 48 ∷ stateWords ∷ 49 ∷ 50 ∷ []) a stateWords
-unlisted zero n0 n1 n2 n4 n5 = absurd (n0 refl)
-unlisted (suc zero) n0 n1 n2 n4 n5 = absurd (n1 refl)
-unlisted (suc (suc zero)) n0 n1 n2 n4 n5 = absurd (n2 refl)
-unlisted (suc (suc (suc zero))) n0 n1 n2 n4 n5 = refl
-unlisted (suc (suc (suc (suc zero)))) n0 n1 n2 n4 n5 = absurd (n4 refl)
-unlisted (suc (suc (suc (suc (suc zero))))) n0 n1 n2 n4 n5 = absurd (n5 refl)
-unlisted (suc (suc (suc (suc (suc (suc a)))))) n0 n1 n2 n4 n5 = refl
+    → stateWords ≡ getD lowPlaces a stateWords
+unlisted =
+    getD-each (λ (r x : ℕ). (r ≡ 0 → ⊥) → (r ≡ 1 → ⊥) → (r ≡ 2 → ⊥) → (r ≡ 4 → ⊥) → (r ≡ 5 → ⊥) → stateWords ≡ x)
+    stateWords lowPlaces
+    ((λ n0 n1 n2 n4 n5. absurd (n0 refl)) and (λ n0 n1 n2 n4 n5. absurd (n1 refl)) and (λ n0 n1 n2 n4 n5. absurd (n2 refl))
+    and (λ n0 n1 n2 n4 n5. refl) and (λ n0 n1 n2 n4 n5. absurd (n4 refl)) and (λ n0 n1 n2 n4 n5. absurd (n5 refl)) and tt)
+    (λ _ _ n0 n1 n2 n4 n5. refl)
 
 -- The state after a write to a register.
 written : (word : ℕ → ℕ) (a w : ℕ) → stateBy (put (registerPlace a) w word) ≡ registerWritten (stateBy word) a w
@@ -117,8 +106,8 @@ place-at-most a =
     cond-cases within-state (within 0x10 7 a) _ _ (λ h. omega (arith, inside 0x10 7 a refl h))
     (λ _. cond-cases within-state (within 0x18 7 a) _ _ (λ h. omega (arith, inside 0x18 7 a refl h))
     (λ _. cond-cases within-state (within 0x40 10 a) _ _ (λ h. omega (arith, inside 0x40 10 a refl h))
-    (λ _. getD-every within-state a stateWords
-    (omega arith also omega arith also omega arith also omega arith also omega arith also omega arith also none) (omega arith))))
+    (λ _. getD-each (λ (_ : ℕ). within-state) stateWords lowPlaces
+    (omega arith and omega arith and omega arith and omega arith and omega arith and omega arith and tt) (λ _ _. omega arith) a)))
   where
     within-state : ℕ → Type 0
     within-state n = n ≤ stateWords

@@ -12,7 +12,7 @@ use xosera::XrAddr;
 ghost use mathlib.Core.Path.{_≡_};
 ghost use Prim.Native.Nat.{_<_};
 ghost use lib.ListN.{length};
-ghost use Rattle.xosera.specs.State.{stateAt};
+ghost use Rattle.xosera.specs.State.{stateWords, stateAt};
 ghost use Rattle.xosera.specs.XrSpace.{registerRead, xrRead};
 ghost use Rattle.xr_registers.specs.Places.{registerPlace, registerWritten};
 
@@ -41,7 +41,7 @@ fn register_place(at: u16) -> usize
 
 // A register read back. The playfields' LINE_ADDR and the blitter's registers read 0.
 fn register_read(s: &[u16], at: u16) -> u16
-    requires { ⌜ length (now s) ≡ 75 ⌝ }
+    requires { ⌜ length (now s) ≡ stateWords ⌝ }
     ensures { λ r. ⌜ r ≡ registerRead (stateAt (now (s .entry)) .video) at ⌝ }
 {
     if at >= 0x20 {
@@ -62,7 +62,7 @@ fn register_read(s: &[u16], at: u16) -> u16
 
 // A register written; nothing where none is stored.
 pub fn store_register(s: &mut [u16], at: u16, w: u16)
-    requires { ⌜ length (now s) ≡ 75 ⌝ }
+    requires { ⌜ length (now s) ≡ stateWords ⌝ }
     ensures { λ _. ⌜ stateAt (now (s .exit)) ≡ registerWritten (stateAt (now (s .entry))) at w ⌝ }
 {
     let i = register_place(at);
@@ -73,7 +73,7 @@ pub fn store_register(s: &mut [u16], at: u16, w: u16)
 
 // A read anywhere in the XR space.
 pub fn xr_read(s: &[u16], xr: &[u16], a: XrAddr) -> u16
-    requires { ⌜ length (now s) ≡ 75 ⌝ }
+    requires { ⌜ length (now s) ≡ stateWords ⌝ }
     requires { ⌜ length (now xr) ≡ 6656 ⌝ }
     ensures { λ r. ⌜ r ≡ xrRead (stateAt (now (s .entry)) .video) (now (xr .entry)) (a .0) ⌝ }
 {

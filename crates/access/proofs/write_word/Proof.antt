@@ -2,14 +2,15 @@
 use mathlib.Core.Path.{_≡_, refl}
 use mathlib.Core.Bool.{true}
 use Prim.Native.Nat.{ℕ, _%_}
-use Rattle.xosera.proofs.WordLaws.{Stored, _takes_, allPlaced, setAll, putAll, stored-adapter, _and_, below}
+use Rattle.xosera.proofs.Tables.{_and_, below-each}
+use Rattle.xosera.proofs.WordLaws.{Stored, _takes_, allPlaced, setAll, putAll, stored-adapter}
 use Rattle.access.proofs.Past.{past-writes}
 use mathlib.Core.List.{[], _∷_}
 use Rattle.xosera.specs.State.{stateBy, wordAt, stateAt}
 use Rattle.xosera.specs.Memories.{stored}
-use Rattle.xosera.specs.Adapter.{adapter, adapterAt, changed}
+use Rattle.xosera.specs.Adapter.{adapter, adapterAt}
+use Rattle.xosera.specs.Plan.{changed, perform}
 use Rattle.xosera.specs.HostBytes.{writeWord}
-use Rattle.xosera.specs.Calls.{perform}
 use borrow.Author.Needs.{needs}
 use Rattle.access.proofs.write_word.Statement.{statement}
 use Rattle.access.proofs.write_word.Tie as tie
@@ -209,7 +210,7 @@ returns-13 c =
     let none = n .0 .0 .0 .0 .0 .0 .0 .0 .0 .0 .0 .1 and n .0 .0 .0 .0 .0 .0 .0 .0 .0 .0 .1 and n .0 .0 .0 .0 .0 .0 .0 .0 .0 .1 and n .0 .0 .0 .0 .0
     .0 .0 .0 .1 and n .0 .0 .0 .0 .0 .0 .0 .1 and n .0 .0 .0 .0 .0 .0 .1
     and n .0 .0 .0 .0 .0 .1 and n .0 .0 .0 .0 .1 and n .0 .0 .0 .1 and n .0 .0 .1 and n .0 .1 and n .1 and tt in
-    rw (past-writes reg (λ l. below (λ (k : ℕ). reg ≡ k → ⊥) 12 none reg l refl))
+    rw (past-writes reg (λ l. below-each (λ (k : ℕ). reg ≡ k → ⊥) 12 none reg l refl))
 
 pub write-word-spec : {M : Type 1} → statement M
 write-word-spec =

@@ -6,9 +6,9 @@ use Rattle.xosera.specs.Adapter.{Adapter, adapterAt}
 use Rattle.xosera.specs.Events.{run}
 use Rattle.xosera.specs.Refusals.{refusal}
 use Rattle.xosera.specs.Calls.{done, given}
-use Rattle.refusals.proofs.Accepted.{run-lent}
-use Rattle.refusals.proofs.Order.{run-refusal}
-use Rattle.adapter.proofs.Answers.{ready, refused, performed}
+use Rattle.refusals.proofs.Accepted.{run-fit}
+use Rattle.refusals.proofs.RefusalOrder.{run-refusal}
+use Rattle.adapter.proofs.Promised.{refused, performed}
 use borrow.Author.Needs.{needs}
 use Rattle.adapter.proofs.blit_run.Statement.{statement}
 use Rattle.adapter.proofs.blit_run.Tie as tie
@@ -40,9 +40,8 @@ returns c = (refused (here (c .before)) (run (began (c .before) .args .n)) _ (te
 run-requires : tie.Need-run-requires
 run-requires c κs =
     let at-if1 = c .before .before in
-    let a = began (at-if1 .before) .args in
-    let fine = run-lent (stateAt (a .s .now)) (a .vram .now) (a .xr .now) (a .n) (accepted at-if1) in
-    (search needs, (fine .vram, ready (stateAt (a .s .now)) (fine .state)))
+    let fit = run-fit (here (at-if1 .before)) (began (at-if1 .before) .args .n) (accepted at-if1) in
+    (search needs, (fit .vram, fit .state))
 
 sub-count : tie.Need-sub-count
 sub-count c =

@@ -5,9 +5,9 @@ use Rattle.xosera.specs.Adapter.{Adapter, adapterAt}
 use Rattle.xosera.specs.Events.{step}
 use Rattle.xosera.specs.Refusals.{refusal}
 use Rattle.xosera.specs.Calls.{done, given}
-use Rattle.refusals.proofs.Accepted.{step-lent}
-use Rattle.refusals.proofs.Order.{step-refusal}
-use Rattle.adapter.proofs.Answers.{ready, refused, performed}
+use Rattle.refusals.proofs.Accepted.{step-fit}
+use Rattle.refusals.proofs.RefusalOrder.{step-refusal}
+use Rattle.adapter.proofs.Promised.{refused, performed}
 use borrow.Author.Needs.{needs}
 use Rattle.adapter.proofs.blit_step.Statement.{statement}
 use Rattle.adapter.proofs.blit_step.Tie as tie
@@ -37,9 +37,8 @@ returns c = (refused (here (c .before)) step _ (tested (c .before)) (c .if1 .tak
 step-requires : tie.Need-step-requires
 step-requires c κs =
     let at-if1 = c .before .before in
-    let a = began (at-if1 .before) .args in
-    let fine = step-lent (stateAt (a .s .now)) (a .vram .now) (a .xr .now) (accepted at-if1) in
-    (search needs, (fine .vram, ready (stateAt (a .s .now)) (fine .state)))
+    let fit = step-fit (here (at-if1 .before)) (accepted at-if1) in
+    (search needs, (fit .vram, fit .state))
 
 same-length : tie.Need-same-length
 same-length c = search needs

@@ -7,8 +7,8 @@ use Rattle.xosera.specs.Adapter.{Adapter, adapterAt}
 use Rattle.xosera.specs.Events.{frameEnd, call}
 use Rattle.xosera.specs.Refusals.{refusal}
 use Rattle.xosera.specs.Calls.{actOf, done, given}
-use Rattle.refusals.proofs.Order.{a-frame-end, state-refusal}
-use Rattle.adapter.proofs.Answers.{refused, performed}
+use Rattle.refusals.proofs.RefusalOrder.{a-frame-end, state-refusal}
+use Rattle.adapter.proofs.Promised.{refused, performed}
 use borrow.Author.Needs.{needs}
 use Rattle.adapter.proofs.frame_end.Statement.{statement}
 use Rattle.adapter.proofs.frame_end.Tie as tie

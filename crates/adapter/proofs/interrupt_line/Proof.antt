@@ -5,12 +5,13 @@ use mathlib.Core.List.{List}
 use Prim.Native.Nat.{ℕ}
 use Rattle.xosera.specs.State.{stateAt}
 use Rattle.xosera.specs.Memories.{stored}
-use Rattle.xosera.specs.Adapter.{Adapter, changed, adapterAt}
+use Rattle.xosera.specs.Adapter.{Adapter, adapterAt}
+use Rattle.xosera.specs.Plan.{changed, perform}
 use Rattle.xosera.specs.Events.{line, call}
 use Rattle.xosera.specs.Refusals.{refusal}
-use Rattle.xosera.specs.Calls.{actOf, perform, done, given}
-use Rattle.refusals.proofs.Order.{a-line, state-refusal}
-use Rattle.adapter.proofs.Answers.{refused, performed}
+use Rattle.xosera.specs.Calls.{actOf, done, given}
+use Rattle.refusals.proofs.RefusalOrder.{a-line, state-refusal}
+use Rattle.adapter.proofs.Promised.{refused, performed}
 use borrow.Author.Needs.{needs}
 use Rattle.adapter.proofs.interrupt_line.Statement.{statement}
 use Rattle.adapter.proofs.interrupt_line.Tie as tie

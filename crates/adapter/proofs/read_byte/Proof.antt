@@ -1,12 +1,11 @@
 -- Refused, or done with the byte read first.
 use mathlib.Core.Path.{_≡_, refl, sym, _∙_}
-use Rattle.xosera.specs.State.{stateAt}
 use Rattle.xosera.specs.Adapter.{Adapter, adapterAt}
 use Rattle.xosera.specs.Events.{Event, read, call}
-use Rattle.xosera.specs.Refusals.{refusal}
+use Rattle.xosera.specs.Refusals.{Fit, refusal}
 use Rattle.xosera.specs.Calls.{actOf, done}
-use Rattle.refusals.proofs.Accepted.{Lent, read-lent}
-use Rattle.adapter.proofs.Answers.{refused, performed}
+use Rattle.refusals.proofs.Accepted.{read-fit}
+use Rattle.adapter.proofs.Promised.{refused, performed}
 use borrow.Author.Needs.{needs}
 use Rattle.adapter.proofs.read_byte.Statement.{statement}
 use Rattle.adapter.proofs.read_byte.Tie as tie
@@ -33,18 +32,18 @@ tested c = let a = began c .args in c .read-refusal .ensures (a .vram .now) (a .
 accepted : (c : tie.Else1) → refusal (here (c .before)) (event (c .before)) ≡ 0
 accepted c = sym (tested (c .before)) ∙ c .if1 .left
 
-fine : (c : tie.Else1) → let a = began (c .before) .args in Lent (stateAt (a .s .now)) (a .vram .now) (a .xr .now)
-fine c = let a = began (c .before) .args in read-lent (stateAt (a .s .now)) (a .vram .now) (a .xr .now) (a .reg) (a .odd) (accepted c)
+fit : (c : tie.Else1) → Fit (here (c .before))
+fit c = let a = began (c .before) .args in read-fit (here (c .before)) (a .reg) (a .odd) (accepted c)
 
 returns : tie.Need-returns
 returns c = (refused (here (c .before)) (event (c .before)) _ (tested (c .before)) (c .if1 .taken), λ _. refl)
 
 byte-read-requires : tie.Need-byte-read-requires
-byte-read-requires c κs = (search needs, fine (c .before .before) .state)
+byte-read-requires c κs = (search needs, fit (c .before .before) .state)
 
 read-requires : tie.Need-read-requires
 read-requires c κs =
-    let lent = fine (c .before .before .before .before) in
+    let lent = fit (c .before .before .before .before) in
     (search needs, (lent .vram, lent .xr))
 
 returns-2 : tie.Need-returns-2

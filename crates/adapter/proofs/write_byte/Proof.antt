@@ -5,8 +5,9 @@ use Rattle.xosera.specs.Adapter.{Adapter, adapterAt}
 use Rattle.xosera.specs.Events.{Event, write, call}
 use Rattle.xosera.specs.Refusals.{refusal}
 use Rattle.xosera.specs.Calls.{actOf, done, given}
-use Rattle.refusals.proofs.Accepted.{latch-byte, write-lent}
-use Rattle.adapter.proofs.Answers.{refused, performed}
+use Rattle.xosera.proofs.RangeLaws.{latch-byte}
+use Rattle.refusals.proofs.Accepted.{write-fit}
+use Rattle.adapter.proofs.Promised.{refused, performed}
 use borrow.Author.Needs.{needs}
 use Rattle.adapter.proofs.write_byte.Statement.{statement}
 use Rattle.adapter.proofs.write_byte.Tie as tie
@@ -37,8 +38,8 @@ write-requires : tie.Need-write-requires
 write-requires c κs =
     let at-if1 = c .before .before .before in
     let a = began (at-if1 .before) .args in
-    let fine = write-lent (stateAt (a .s .now)) (a .vram .now) (a .xr .now) (a .reg) (a .odd) (a .byte) (accepted at-if1) in
-    (search needs, (fine .0 .vram, (fine .0 .xr, (fine .1, latch-byte (stateAt (a .s .now)) (a .reg) (fine .0 .state)))))
+    let fit = write-fit (here (at-if1 .before)) (a .reg) (a .odd) (a .byte) (accepted at-if1) in
+    (search needs, (fit .0 .vram, (fit .0 .xr, (fit .1, latch-byte (stateAt (a .s .now)) (a .reg) (fit .0 .state)))))
 
 same-length : tie.Need-same-length
 same-length c = search needs

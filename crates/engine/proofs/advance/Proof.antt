@@ -1,8 +1,8 @@
 -- The counts have room, since the word is not the blit's last.
 use mathlib.Core.Path.{sym, _∙_}
 use native.Mathlib.Omega.{arith}
-use Rattle.engine.specs.Progress.{advanced}
-use Rattle.engine.proofs.Words.{word-room, line-room}
+use Rattle.xosera.specs.Blitter.{nextKept, next}
+use Rattle.xosera.proofs.EngineLaws.{word-more, line-more}
 use borrow.Author.Needs.{needs}
 use Rattle.engine.proofs.advance.Statement.{statement}
 use Rattle.engine.proofs.advance.Tie as tie
@@ -21,10 +21,10 @@ add-t7 c =
     let at-last-word = c .before .before in
     let start = at-last-word .before .before .before .before in
     let ends = sym (at-last-word .last-word .ensures) ∙ c .before .if1 .taken in
-    omega (arith, line-room _ (start .pre .0) ends (start .pre .1))
+    omega (arith, line-more _ (start .pre .0) ends (start .pre .1), start .pre .0 .lines-within)
 
 returns : tie.Need-returns
-unfolding advanced
+unfolding next nextKept
 returns c =
     let at-last-word = c .before .before in
     let at-next-dest = at-last-word .before .before in
@@ -35,10 +35,10 @@ returns c =
 add-t8 : tie.Need-add-t8
 add-t8 c =
     let goes-on = sym (c .before .before .last-word .ensures) ∙ c .before .if1 .left in
-    omega (arith, word-room _ (c .before .before .before .before .before .before .pre .0) goes-on)
+    omega (arith, word-more _ (c .before .before .before .before .before .before .pre .0) goes-on)
 
 returns-2 : tie.Need-returns-2
-unfolding advanced
+unfolding next nextKept
 returns-2 c =
     let at-last-word = c .before .before in
     let at-next-dest = at-last-word .before .before in

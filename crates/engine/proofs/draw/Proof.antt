@@ -1,8 +1,6 @@
 -- Each part of the store as the definition has it.
-use Rattle.engine.specs.Progress.{sourcedFrom}
-use mathlib.Core.Path.{sym, ap, _∙_}
-use Rattle.xosera.specs.Blitter.{drawing, drawn}
-use Rattle.engine.proofs.Words.{sourced-is}
+use mathlib.Core.Path.{ap, _∙_}
+use Rattle.xosera.specs.Blitter.{sourced, drawing, drawn}
 use borrow.Author.Needs.{needs}
 use Rattle.engine.proofs.draw.Statement.{statement}
 use Rattle.engine.proofs.draw.Tie as tie
@@ -35,9 +33,9 @@ returns c =
     let at-fetch = at-source .before in
     let start = at-fetch .before .before .before in
     let e = start .args .e in
-    let raw = at-fetch .fetch .ensures in
-    let s = at-source .source .ensures ∙ ap (sourcedFrom e) raw ∙ sym (sourced-is e (start .args .vram .now)) in
-    (raw, rw (← s, ← at-combined .combined .ensures) (at-store-bits .store-bits .ensures _ (at-write-bits .write-bits .ensures)))
+    let word = at-fetch .fetch .ensures in
+    let s = at-source .source .ensures ∙ ap (sourced e) word in
+    (word, rw (← s, ← at-combined .combined .ensures) (at-store-bits .store-bits .ensures _ (at-write-bits .write-bits .ensures)))
 
 pub draw-spec : {M : Type 1} → statement M
 draw-spec =

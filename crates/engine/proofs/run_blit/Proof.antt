@@ -8,10 +8,10 @@ use Rattle.engine.proofs.run_blit.Statement.{statement}
 use Rattle.engine.proofs.run_blit.Tie as tie
 
 abbrev Inv-loop : tie.InvT-loop
-Inv-loop vram₀ n at₀ left₀ vram at left = Going at₀ vram₀ n at vram left
+Inv-loop vram₀ n at₀ rest₀ vram at rest = Going at₀ vram₀ n at vram rest
 
 abbrev μ-loop : tie.MeasureT-loop
-μ-loop vram₀ n at₀ left₀ vram at left = left
+μ-loop vram₀ n at₀ rest₀ vram at rest = rest
 
 loop-holds : tie.Need-loop-holds Inv-loop μ-loop
 loop-holds c =
@@ -31,8 +31,8 @@ draw-requires c κs =
     let start = at-loop .before .before in
     long-enough (at-run-inside .run-inside .ensures .vram-length ∙ at-loop .loop .inv .vram-length) (start .pre .0)
 
-sub-left : tie.Need-sub-left Inv-loop μ-loop
-sub-left c = omega (arith, c .before .before .before .before .if1 .left)
+sub-rest : tie.Need-sub-rest Inv-loop μ-loop
+sub-rest c = omega (arith, c .before .before .before .before .if1 .left)
 
 last-step-requires : tie.Need-last-step-requires Inv-loop μ-loop
 last-step-requires c κs = tt
@@ -106,7 +106,7 @@ run-blit-spec =
     loop-holds
     run-inside-requires
     draw-requires
-    sub-left
+    sub-rest
     last-step-requires
     same-length
     returns

@@ -2,16 +2,16 @@
 use mathlib.Core.Path.{sym, _∙_}
 use native.Mathlib.Omega.{arith}
 use Rattle.engine.specs.Progress.{Going}
-use Rattle.engine.proofs.Words.{inside-on}
+use Rattle.xosera.proofs.EngineLaws.{inside-not-last}
 use Rattle.engine.proofs.Runs.{going-start, going-drawn, long-enough}
 use Rattle.engine.proofs.run_inside.Statement.{statement}
 use Rattle.engine.proofs.run_inside.Tie as tie
 
 abbrev Inv-loop : tie.InvT-loop
-Inv-loop vram₀ n at₀ left₀ vram at left = Going at₀ vram₀ n at vram left
+Inv-loop vram₀ n at₀ rest₀ vram at rest = Going at₀ vram₀ n at vram rest
 
 abbrev μ-loop : tie.MeasureT-loop
-μ-loop vram₀ n at₀ left₀ vram at left = left
+μ-loop vram₀ n at₀ rest₀ vram at rest = rest
 
 loop-holds : tie.Need-loop-holds Inv-loop μ-loop
 loop-holds c =
@@ -32,10 +32,10 @@ advance-requires c κs =
     let at-if2 = c .before .before .before .before in
     let at-last-word = at-if2 .before in
     let at-loop = at-last-word .before .before .before .before in
-    (at-loop .loop .inv .goes-on, inside-on _ (sym (at-last-word .last-word .ensures) ∙ at-if2 .if2 .left))
+    (at-loop .loop .inv .goes-on, inside-not-last _ (sym (at-last-word .last-word .ensures) ∙ at-if2 .if2 .left))
 
-sub-left : tie.Need-sub-left Inv-loop μ-loop
-sub-left c = omega arith
+sub-rest : tie.Need-sub-rest Inv-loop μ-loop
+sub-rest c = omega arith
 
 loop-less : tie.Need-loop-less Inv-loop μ-loop
 loop-less c = omega arith
@@ -47,7 +47,7 @@ loop-again c =
     let at-last-word = at-if2 .before in
     let at-loop-test = at-last-word .before .before .before in
     let at-loop = at-loop-test .before in
-    let inside = inside-on _ (sym (at-last-word .last-word .ensures) ∙ at-if2 .if2 .left) in
+    let inside = inside-not-last _ (sym (at-last-word .last-word .ensures) ∙ at-if2 .if2 .left) in
     going-drawn (at-loop .loop .inv) (at-loop-test .loop-test .taken) inside (at-draw .draw .ensures .0) (at-draw .draw .ensures .1) (c .advance .ensures)
 
 same-length : tie.Need-same-length Inv-loop μ-loop
@@ -78,7 +78,7 @@ run-inside-spec =
     last-word-requires
     draw-requires
     advance-requires
-    sub-left
+    sub-rest
     loop-less
     loop-again
     same-length

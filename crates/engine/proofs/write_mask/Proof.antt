@@ -1,7 +1,7 @@
 -- The mask has four bits, so it comes back whole.
 use mathlib.Core.Path.{_∙_}
 use Rattle.xosera.specs.Blitter.{writeMask}
-use Rattle.engine.proofs.Words.{write-mask-whole}
+use Rattle.engine.proofs.MaskBits.{write-mask-whole}
 use borrow.Author.Needs.{needs}
 use Rattle.engine.proofs.write_mask.Statement.{statement}
 use Rattle.engine.proofs.write_mask.Tie as tie

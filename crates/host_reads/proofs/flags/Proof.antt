@@ -1,27 +1,21 @@
--- By the two flags.
-use borrow.Author.Tests.{eq-eqb, ne-eqb}
+-- The sum of the flags' bits.
+use Rattle.xosera.specs.Fields.{flagBits}
+use borrow.Author.Needs.{needs}
 use Rattle.host_reads.proofs.flags.Statement.{statement}
 use Rattle.host_reads.proofs.flags.Tie as tie
 
+flag-requires : tie.Need-flag-requires
+flag-requires c κs = search needs
+
+flag-requires-2 : tie.Need-flag-requires-2
+flag-requires-2 c κs = search needs
+
+add-result : tie.Need-add-result
+add-result c = search needs
+
 returns : tie.Need-returns
-returns c =
-    let at-if1 = c .before in
-    rw (eq-eqb _ 1 (at-if1 .if1 .taken), eq-eqb _ 1 (c .if2 .taken))
-
-returns-2 : tie.Need-returns-2
-returns-2 c =
-    let at-if1 = c .before in
-    rw (eq-eqb _ 1 (at-if1 .if1 .taken), ne-eqb _ 1 (c .if2 .left))
-
-returns-3 : tie.Need-returns-3
-returns-3 c =
-    let at-if1 = c .before in
-    rw (ne-eqb _ 1 (at-if1 .if1 .left), eq-eqb _ 1 (c .if3 .taken))
-
-returns-4 : tie.Need-returns-4
-returns-4 c =
-    let at-if1 = c .before in
-    rw (ne-eqb _ 1 (at-if1 .if1 .left), ne-eqb _ 1 (c .if3 .left))
+unfolding flagBits
+returns c = rw (c .before .flag .ensures .0, c .flag2 .ensures .0)
 
 pub flags-spec : {M : Type 1} → statement M
-flags-spec = tie.close (tie.spec returns returns-2 returns-3 returns-4)
+flags-spec = tie.close (tie.spec flag-requires flag-requires-2 add-result returns)

@@ -4,7 +4,7 @@ use Prim.Native.Nat.{ℕ, _/_}
 use native.Mathlib.Omega.{arith}
 use Rattle.xosera.specs.State.{stateAt}
 use Rattle.xosera.specs.HostBytes.{highByte}
-use Rattle.host_reads.proofs.Tables.{past-three, bytes-of}
+use Rattle.host_reads.proofs.ReadTables.{past-three, bytes-of}
 use borrow.Author.Needs.{needs}
 use Rattle.host_reads.proofs.high_byte.Statement.{statement}
 use Rattle.host_reads.proofs.high_byte.Tie as tie

@@ -1,10 +1,10 @@
 -- By the arm that was taken; no other register shows a word.
 use mathlib.Core.Path.{_≡_, refl}
 use Prim.Native.Nat.{ℕ}
-use Rattle.xosera.proofs.WordLaws.{_and_, within-all}
+use Rattle.xosera.proofs.Tables.{_and_, within-each}
 use Rattle.xosera.specs.State.{stateAt}
 use Rattle.xosera.specs.HostBytes.{shown}
-use Rattle.host_reads.proofs.Tables.{unshown}
+use Rattle.host_reads.proofs.ReadTables.{unshown}
 use borrow.Author.Needs.{needs}
 use Rattle.host_reads.proofs.shown.Statement.{statement}
 use Rattle.host_reads.proofs.shown.Tie as tie
@@ -97,7 +97,7 @@ returns-10 c =
     let n = c .match .rest in
     let none = n .0 .0 .0 .0 .0 .0 .0 .0 .1 and n .0 .0 .0 .0 .0 .0 .0 .1 and n .0 .0 .0 .0 .0 .0 .1 and n .0 .0 .0 .0 .0 .1 and n .0 .0 .0 .0 .1
     and n .0 .0 .0 .1 and n .0 .0 .1 and n .0 .1 and n .1 and tt in
-    unshown (stateAt (start .args .s .now) .host) reg (λ l h. within-all (λ (k : ℕ). reg ≡ k → ⊥) 9 3 none reg l h refl)
+    unshown (stateAt (start .args .s .now) .host) reg (λ l h. within-each (λ (k : ℕ). reg ≡ k → ⊥) 9 3 none reg l h refl)
 
 pub shown-spec : {M : Type 1} → statement M
 shown-spec =

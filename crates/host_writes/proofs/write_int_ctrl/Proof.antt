@@ -5,8 +5,7 @@ use Prim.Native.Nat.{_-_, _/_, _%_}
 use lib.Bits.{bitAnd}
 use Rattle.xosera.specs.State.{wordAt, stateAt}
 use Rattle.xosera.specs.Memories.{stored}
-use Rattle.xosera.specs.Adapter.{changed}
-use Rattle.xosera.specs.Calls.{perform}
+use Rattle.xosera.specs.Plan.{changed, perform}
 use Rattle.xosera.proofs.WordLaws.{_takes_, stored-adapter}
 use borrow.Author.Needs.{needs}
 use Rattle.host_writes.proofs.write_int_ctrl.Statement.{statement}

@@ -32,7 +32,7 @@ returns c =
     let at-put-engine = c .before .before in
     let at-successor = at-put-engine .before .before .before in
     let start = at-successor .before .before .before in
-    end-stored (start .args .s .now) (start .pre) (at-successor .successor .ensures) (at-put-engine .put-engine .ensures)
+    λ v x. end-stored (start .args .s .now) (start .pre) v x (at-successor .successor .ensures) (at-put-engine .put-engine .ensures)
 
 pub end-blit-spec : {M : Type 1} → statement M
 end-blit-spec =

@@ -28,7 +28,7 @@ run-one-requires-2 c κs =
     let at-run-one = at-s .before in
     let start = at-run-one .before .before .before .before .before in
     let one = at-run-one .run-one .ensures in
-    (at-s .s .given ∙ start .pre .0, (long-enough (one .vram-length) (start .pre .1 .0), one .ready))
+    (at-s .s .given ∙ start .pre .0, (long-enough (one .vram-length) (start .pre .1 .0), one .in-range))
 
 same-length-3 : tie.Need-same-length-3
 same-length-3 c = search needs

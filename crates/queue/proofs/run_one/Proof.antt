@@ -1,9 +1,11 @@
 -- An idle engine, a blit that ends, or one that goes on.
-use mathlib.Core.Path.{ap, _∙_}
-use borrow.Author.Tests.{eq-eqb}
+use mathlib.Core.Path.{sym, ap, subst}
+use mathlib.Core.List.{[]}
 use Rattle.xosera.specs.State.{stateAt}
-use Rattle.xosera.specs.Refusals.{engineInRange}
-use Rattle.queue.proofs.OneBlit.{one-idle, one-over, one-going}
+use Rattle.xosera.specs.Adapter.{stateOf}
+use Rattle.xosera.specs.Ranges.{Running}
+use Rattle.xosera.proofs.RangeLaws.{in-range-runs}
+use Rattle.queue.proofs.OneBlitLaws.{one-idle, one-over, one-going}
 use Rattle.queue.proofs.OneStep.{running, idle}
 use borrow.Author.Needs.{needs}
 use Rattle.queue.proofs.run_one.Statement.{statement}
@@ -27,10 +29,10 @@ run-blit-requires : tie.Need-run-blit-requires
 run-blit-requires c κs =
     let at-if1 = c .before in
     let at-engine-of = at-if1 .before .before in
-    let start = at-engine-of .before .before .before .before in (
-      start .pre .1 .0,
-      record { running = eq-eqb _ 1 (at-if1 .if1 .left); in-range = ap engineInRange (at-engine-of .engine-of .ensures) ∙ start .pre .1 .1 .engine },
-    )
+    let start = at-engine-of .before .before .before .before in
+    let s = stateAt (start .args .s .now) in
+    let on = running s (start .args .vram .now) (at-engine-of .engine-of .ensures) (at-if1 .if1 .left) in
+    (start .pre .1 .0, subst Running (sym (at-engine-of .engine-of .ensures)) (in-range-runs s (start .pre .1 .1) on))
 
 end-blit-requires : tie.Need-end-blit-requires
 end-blit-requires c κs = search needs
@@ -50,7 +52,7 @@ returns-2 c =
     let start = at-engine-of .before .before .before .before in
     let s = stateAt (start .args .s .now) in
     let v = start .args .vram .now in
-    rw (at-end-blit .end-blit .ensures) (one-over s v (start .args .n)
+    rw (ap stateOf (at-end-blit .end-blit .ensures [] [])) (one-over s v (start .args .n) (start .pre .1 .1)
     (rw (at-engine-of .engine-of .ensures) at (at-run-blit .run-blit .ensures .over (at-if2 .if2 .taken))))
 
 put-engine-requires : tie.Need-put-engine-requires

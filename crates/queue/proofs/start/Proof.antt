@@ -20,7 +20,7 @@ same-length c = search needs
 returns : tie.Need-returns
 returns c =
     let start = c .before .before .before in
-    start-queues (start .args .s .now) (start .pre) (eq-eqb _ 1 (c .if1 .taken))
+    λ v x. start-queues (start .args .s .now) (start .pre) v x (eq-eqb _ 1 (c .if1 .taken))
 
 blit-regs-requires : tie.Need-blit-regs-requires
 blit-regs-requires c κs = search needs
@@ -43,7 +43,7 @@ returns-2 c =
     let at-blit-regs = at-launch .before in
     let at-if1 = at-blit-regs .before .before in
     let start = at-if1 .before .before .before in
-    start-launches (start .args .s .now) (start .pre) (ne-eqb _ 1 (at-if1 .if1 .left))
+    λ v x. start-launches (start .args .s .now) (start .pre) v x (ne-eqb _ 1 (at-if1 .if1 .left))
     (at-launch .launch .ensures ∙ ap launched (at-blit-regs .blit-regs .ensures)) (at-put-engine .put-engine .ensures)
 
 pub start-spec : {M : Type 1} → statement M

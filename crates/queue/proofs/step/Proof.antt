@@ -1,11 +1,11 @@
 -- Nothing, the last word of a blit, or another of its words.
-use mathlib.Core.Path.{_≡_, sym, ap, _∙_}
+use mathlib.Core.Path.{_≡_, sym, subst, _∙_}
 use mathlib.Core.Bool.{true}
 use mathlib.Core.List.{List}
 use Prim.Native.Nat.{ℕ}
-use borrow.Author.Tests.{eq-eqb}
 use Rattle.xosera.specs.State.{State, isSet, stateAt}
-use Rattle.xosera.specs.Refusals.{engineInRange}
+use Rattle.xosera.specs.Ranges.{Running}
+use Rattle.xosera.proofs.RangeLaws.{in-range-runs}
 use Rattle.queue.proofs.OneStep.{running, idle, step-idle, step-ends, step-goes-on, counts-none, counts-one}
 use borrow.Author.Needs.{needs}
 use Rattle.queue.proofs.step.Statement.{statement}
@@ -74,7 +74,7 @@ advance-requires c κs =
     let at-last-step = at-if2 .before in
     let at-if1 = at-last-step .before .before .before .before .before in
     let read = at-if1 .before .before in (
-      record { running = eq-eqb _ 1 (at-if1 .if1 .left); in-range = ap engineInRange (read .engine-of .ensures) ∙ began read .pre .1 .1 .engine },
+      subst Running (sym (read .engine-of .ensures)) (in-range-runs (state-at read) (began read .pre .1 .1) (on at-if1)),
       sym (at-last-step .last-step .ensures) ∙ at-if2 .if2 .left,
     )
 

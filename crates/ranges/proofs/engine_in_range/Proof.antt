@@ -2,7 +2,7 @@
 use mathlib.Core.Path.{sym, _∙_}
 use borrow.Author.Tests.{eq-eqb, ne-eqb}
 use Rattle.xosera.specs.State.{stateAt}
-use Rattle.xosera.specs.Refusals.{engineInRange}
+use Rattle.xosera.specs.Ranges.{engineInRange}
 use Rattle.xosera.proofs.Branches.{cond-yes, cond-no}
 use borrow.Author.Needs.{needs}
 use Rattle.ranges.proofs.engine_in_range.Statement.{statement}

@@ -1,5 +1,5 @@
 -- No high byte where the words are bytes.
-use Rattle.ranges.proofs.Lanes.{lanes-bytes}
+use Rattle.ranges.proofs.LaneTests.{lanes-bytes}
 use borrow.Author.Needs.{needs}
 use Rattle.ranges.proofs.high_bytes.Statement.{statement}
 use Rattle.ranges.proofs.high_bytes.Tie as tie

@@ -5,8 +5,8 @@ use mathlib.Core.List.{List}
 use Prim.Native.Nat.{ℕ}
 use lib.Dec.{eqb}
 use Rattle.xosera.specs.State.{wordAt, stateAt}
-use Rattle.xosera.specs.Refusals.{isNoRegs, idleInRange}
-use Rattle.ranges.proofs.Lanes.{lanes-are-none, four-none, grouped}
+use Rattle.xosera.specs.Ranges.{isNoRegs, idleInRange}
+use Rattle.ranges.proofs.LaneTests.{lanes-are-none, four-none, grouped}
 use borrow.Author.Needs.{needs}
 use Rattle.ranges.proofs.idle_in_range.Statement.{statement}
 use Rattle.ranges.proofs.idle_in_range.Tie as tie

@@ -2,7 +2,7 @@
 use mathlib.Core.Path.{ap₂, _∙_}
 use mathlib.Core.Bool.{_&&_}
 use Rattle.xosera.specs.State.{wordsFrom, wordAt, stateAt}
-use Rattle.ranges.proofs.Lanes.{four-none, bytes-append}
+use Rattle.ranges.proofs.LaneTests.{four-none, bytes-append}
 use borrow.Author.Needs.{needs}
 use Rattle.ranges.proofs.latches_in_range.Statement.{statement}
 use Rattle.ranges.proofs.latches_in_range.Tie as tie

@@ -4,7 +4,7 @@ use mathlib.Core.Bool.{true, _&&_}
 use borrow.Author.Tests.{not-true, not-false, lt-leb, le-leb}
 use lib.Dec.{leb}
 use Rattle.xosera.specs.State.{Host, stateAt}
-use Rattle.xosera.specs.Refusals.{timerInRange, hostInRange}
+use Rattle.xosera.specs.Ranges.{timerInRange, hostInRange}
 use Rattle.ranges.specs.Halves.{registersInRange}
 use borrow.Author.Needs.{needs}
 use Rattle.ranges.proofs.registers_in_range.Statement.{statement}

@@ -1,7 +1,7 @@
 -- Each answer is the definition's, by the tests on its way.
 use Rattle.xosera.specs.State.{stateAt}
-use Rattle.xosera.specs.Refusals.{runningInRange}
-use Rattle.ranges.proofs.Tests.{tests, too-many-lines}
+use Rattle.xosera.specs.Ranges.{startsEmpty, runningInRange}
+use Rattle.ranges.proofs.RangeTests.{tests, too-many-lines}
 use borrow.Author.Needs.{needs}
 use Rattle.ranges.proofs.running_in_range.Statement.{statement}
 use Rattle.ranges.proofs.running_in_range.Tie as tie
@@ -20,7 +20,7 @@ element-copy-out-if2-2 : tie.Need-element-copy-out-if2-2
 element-copy-out-if2-2 c = search needs
 
 returns-2 : tie.Need-returns-2
-unfolding stateAt runningInRange
+unfolding stateAt runningInRange startsEmpty
 returns-2 c = search tests
 
 element-copy-out-if3 : tie.Need-element-copy-out-if3
@@ -30,21 +30,21 @@ element-copy-out-if3-2 : tie.Need-element-copy-out-if3-2
 element-copy-out-if3-2 c = search needs
 
 returns-3 : tie.Need-returns-3
-unfolding stateAt runningInRange
+unfolding stateAt runningInRange startsEmpty
 returns-3 c = search tests
 
 element-copy-out-if4 : tie.Need-element-copy-out-if4
 element-copy-out-if4 c = search needs
 
 returns-4 : tie.Need-returns-4
-unfolding stateAt runningInRange
+unfolding stateAt runningInRange startsEmpty
 returns-4 c = search tests
 
 element-copy-out-result : tie.Need-element-copy-out-result
 element-copy-out-result c = search needs
 
 returns-5 : tie.Need-returns-5
-unfolding stateAt runningInRange
+unfolding stateAt runningInRange startsEmpty
 returns-5 c = search tests
 
 pub running-in-range-spec : {M : Type 1} → statement M

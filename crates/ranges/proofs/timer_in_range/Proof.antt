@@ -1,7 +1,7 @@
 -- At its interval, stopped short of it, or below it.
 use Rattle.xosera.specs.State.{stateAt}
-use Rattle.xosera.specs.Refusals.{timerInRange}
-use Rattle.ranges.proofs.Tests.{at-interval, stopped-short, below-interval}
+use Rattle.xosera.specs.Ranges.{timerInRange}
+use Rattle.ranges.proofs.RangeTests.{at-interval, stopped-short, below-interval}
 use borrow.Author.Needs.{needs}
 use Rattle.ranges.proofs.timer_in_range.Statement.{statement}
 use Rattle.ranges.proofs.timer_in_range.Tie as tie

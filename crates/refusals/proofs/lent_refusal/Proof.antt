@@ -1,7 +1,7 @@
 -- The lengths first, then the state.
 use mathlib.Core.Path.{_∙_}
 use Rattle.xosera.specs.State.{stateAt}
-use Rattle.refusals.proofs.Order.{lengths-first, lengths-passed}
+use Rattle.refusals.proofs.RefusalOrder.{lengths-first, lengths-passed}
 use borrow.Author.Needs.{needs}
 use Rattle.refusals.proofs.lent_refusal.Statement.{statement}
 use Rattle.refusals.proofs.lent_refusal.Tie as tie

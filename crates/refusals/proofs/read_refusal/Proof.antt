@@ -1,7 +1,7 @@
 -- 1 to 3, then 4.
 use native.Mathlib.Omega.{arith}
 use Rattle.xosera.specs.State.{stateAt}
-use Rattle.refusals.proofs.Order.{read-first, read-over, read-done}
+use Rattle.refusals.proofs.RefusalOrder.{read-first, read-over, read-done}
 use borrow.Author.Needs.{needs}
 use Rattle.refusals.proofs.read_refusal.Statement.{statement}
 use Rattle.refusals.proofs.read_refusal.Tie as tie

@@ -2,8 +2,9 @@
 use mathlib.Core.Path.{_≡_, sym, _∙_}
 use borrow.Author.Tests.{not-true, not-false}
 use Rattle.xosera.specs.State.{stateAt}
-use Rattle.xosera.specs.Refusals.{inRange, first}
-use Rattle.ranges.proofs.Halves.{halves}
+use Rattle.xosera.specs.Ranges.{inRange}
+use Rattle.xosera.specs.Refusals.{first}
+use Rattle.ranges.proofs.BothHalves.{halves}
 use borrow.Author.Needs.{needs}
 use Rattle.refusals.proofs.state_refusal.Statement.{statement}
 use Rattle.refusals.proofs.state_refusal.Tie as tie

@@ -4,8 +4,8 @@ use native.Mathlib.Omega.{arith}
 use borrow.Author.Tests.{not-true, not-false}
 use Rattle.xosera.specs.State.{stateAt}
 use Rattle.refusals.specs.Tested.{lentRefusal}
-use Rattle.refusals.proofs.Accepted.{latch-byte}
-use Rattle.refusals.proofs.Order.{lengths-first, lengths-passed, write-first, write-over, write-even, write-odd, lent-in-range}
+use Rattle.xosera.proofs.RangeLaws.{latch-byte}
+use Rattle.refusals.proofs.RefusalOrder.{lengths-first, lengths-passed, write-first, write-over, write-even, write-odd, lent-in-range}
 use borrow.Author.Needs.{needs}
 use Rattle.refusals.proofs.write_refusal.Statement.{statement}
 use Rattle.refusals.proofs.write_refusal.Tie as tie

@@ -4,9 +4,8 @@ use mathlib.Core.List.{[], _∷_}
 use Prim.Native.Nat.{_%_}
 use Rattle.xosera.specs.State.{wordAt, stateAt}
 use Rattle.xosera.specs.Memories.{stored}
-use Rattle.xosera.specs.Adapter.{changed}
+use Rattle.xosera.specs.Plan.{changed, perform}
 use Rattle.xosera.specs.HostBytes.{timerSaved, readByte}
-use Rattle.xosera.specs.Calls.{perform}
 use Rattle.xosera.proofs.WordLaws.{_takes_, stored-adapter}
 use borrow.Author.Needs.{needs}
 use Rattle.timer.proofs.save.Statement.{statement}

@@ -6,11 +6,11 @@ use mathlib.Core.List.{[], _∷_}
 use borrow.Author.Tests.{eq-eqb, ne-eqb}
 use Rattle.xosera.specs.State.{wordAt, stateAt}
 use Rattle.xosera.specs.Words.{wrap}
+use Rattle.xosera.specs.Fields.{timerExpired}
 use Rattle.xosera.specs.Memories.{stored}
-use Rattle.xosera.specs.Adapter.{changed}
+use Rattle.xosera.specs.Plan.{changed, perform}
 use Rattle.xosera.specs.TimerTick as TimerTick
-use Rattle.xosera.specs.TimerTick.{ticked, counted, expires}
-use Rattle.xosera.specs.Calls.{perform}
+use Rattle.xosera.specs.TimerTick.{ticked, lowered, expires}
 use Rattle.xosera.proofs.WordLaws.{_takes_, stored-adapter}
 use lib.ListN.{length-set}
 use native.Mathlib.Omega.{arith}
@@ -46,19 +46,19 @@ same-length : tie.Need-same-length
 same-length c = search needs
 
 returns : tie.Need-returns
-unfolding stateAt perform changed stored TimerTick.tick ticked counted expires wrap
+unfolding stateAt perform changed stored TimerTick.tick ticked lowered expires wrap
 returns c =
     let at-wrapping-add-u16 = c .before in
     let start = at-wrapping-add-u16 .before .before .before .before .before .before in
     let ws = start .args .s .now in
-    let stores = (25 takes at-wrapping-add-u16 .wrapping-add-u16 .result) ∷ (26 takes wordAt ws 27) ∷ (31 takes bitOr (wordAt ws 31) 32) ∷ [] in
+    let stores = (25 takes at-wrapping-add-u16 .wrapping-add-u16 .result) ∷ (26 takes wordAt ws 27) ∷ (31 takes bitOr (wordAt ws 31) timerExpired) ∷ [] in
     λ v x. stored-adapter ws (start .pre) stores refl v x ∙ rw (at-wrapping-add-u16 .wrapping-add-u16 .ensures, eq-eqb (wordAt ws 26) 1 (c .if1 .taken))
 
 same-length-2 : tie.Need-same-length-2
 same-length-2 c = search needs
 
 returns-2 : tie.Need-returns-2
-unfolding stateAt perform changed stored TimerTick.tick ticked counted expires wrap
+unfolding stateAt perform changed stored TimerTick.tick ticked lowered expires wrap
 returns-2 c =
     let at-if1 = c .before in
     let at-wrapping-add-u16 = at-if1 .before in
@@ -77,7 +77,7 @@ same-length-3 : tie.Need-same-length-3
 same-length-3 c = search needs
 
 returns-3 : tie.Need-returns-3
-unfolding stateAt perform changed stored TimerTick.tick ticked counted expires wrap
+unfolding stateAt perform changed stored TimerTick.tick ticked lowered expires wrap
 returns-3 c =
     let at-if1 = c .before in
     let at-wrapping-add-u16 = at-if1 .before in

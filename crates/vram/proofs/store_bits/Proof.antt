@@ -1,6 +1,6 @@
 -- The merged word at the place of the address; under mask 0 that is the word that was there.
 use Rattle.xosera.specs.Memories.{place, word}
-use Rattle.vram.proofs.Stores.{stored-at}
+use Rattle.vram.proofs.StoredWord.{stored-at}
 use borrow.Author.Needs.{needs}
 use Rattle.vram.proofs.store_bits.Statement.{statement}
 use Rattle.vram.proofs.store_bits.Tie as tie

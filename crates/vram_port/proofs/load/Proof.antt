@@ -3,9 +3,8 @@ use mathlib.Core.Path.{refl, _∙_}
 use mathlib.Core.List.{[], _∷_}
 use Rattle.xosera.specs.State.{stateAt}
 use Rattle.xosera.specs.Memories.{stored}
-use Rattle.xosera.specs.Adapter.{changed}
+use Rattle.xosera.specs.Plan.{changed, vramLoaded, perform}
 use Rattle.xosera.specs.HostBytes.{vramLoad}
-use Rattle.xosera.specs.Calls.{vramLoaded, perform}
 use Rattle.xosera.proofs.WordLaws.{_takes_, stored-adapter}
 use borrow.Author.Needs.{needs}
 use Rattle.vram_port.proofs.load.Statement.{statement}

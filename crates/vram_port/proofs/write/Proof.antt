@@ -3,8 +3,7 @@ use mathlib.Core.Path.{refl, _∙_}
 use mathlib.Core.List.{[], _∷_}
 use Rattle.xosera.specs.State.{stateAt}
 use Rattle.xosera.specs.Words.{wrap}
-use Rattle.xosera.specs.Adapter.{changed}
-use Rattle.xosera.specs.Calls.{perform}
+use Rattle.xosera.specs.Plan.{changed, perform}
 use Rattle.xosera.proofs.WordLaws.{_takes_, stored-adapter}
 use borrow.Author.Needs.{needs}
 use Rattle.vram_port.proofs.write.Statement.{statement}

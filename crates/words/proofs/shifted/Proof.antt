@@ -4,7 +4,7 @@ use Prim.Native.Nat.{ℕ, _+_, _*_, _-_, _/_, _%_, _^_, _<_}
 use borrow.Author.Needs.{needs}
 use native.Mathlib.Omega.{arith}
 use Rattle.xosera.specs.Words.{shifted}
-use Rattle.words.proofs.Finite.{four}
+use Rattle.xosera.proofs.Tables.{_and_, below-each}
 use Rattle.words.proofs.shifted.Statement.{statement}
 use Rattle.words.proofs.shifted.Tie as tie
 
@@ -29,8 +29,8 @@ cast-result-2 c = search needs
 pair-shifted : (before s : ℕ) → s < 65536 → (k : ℕ) → k < 4 → (before * 65536 + s) / 2 ^ (k * 4) % 65536 ≡ shifted k before s
 unfolding shifted
 pair-shifted before s h =
-    four (λ (k : ℕ). (before * 65536 + s) / 2 ^ (k * 4) % 65536 ≡ before % 16 ^ k * 16 ^ (4 - k) + s / 16 ^ k)
-    (omega arith) (omega arith) (omega arith) (omega arith)
+    below-each (λ (k : ℕ). (before * 65536 + s) / 2 ^ (k * 4) % 65536 ≡ before % 16 ^ k * 16 ^ (4 - k) + s / 16 ^ k) 4
+    (omega arith and omega arith and omega arith and omega arith and tt)
 
 returns : tie.Need-returns
 returns c = pair-shifted (c .args .before) (c .args .s) (c .fits .s .fits) (c .args .shift % 4) (omega arith)

@@ -3,9 +3,8 @@ use mathlib.Core.Path.{refl, _∙_}
 use mathlib.Core.List.{[], _∷_}
 use Rattle.xosera.specs.State.{stateAt}
 use Rattle.xosera.specs.Memories.{stored}
-use Rattle.xosera.specs.Adapter.{changed}
+use Rattle.xosera.specs.Plan.{changed, perform}
 use Rattle.xosera.specs.HostBytes.{xrLoaded}
-use Rattle.xosera.specs.Calls.{perform}
 use Rattle.xosera.proofs.WordLaws.{_takes_, stored-adapter}
 use borrow.Author.Needs.{needs}
 use Rattle.xr_port.proofs.load.Statement.{statement}

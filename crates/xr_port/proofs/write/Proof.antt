@@ -5,8 +5,8 @@ use lib.ListN.{length-set}
 use Rattle.xosera.specs.State.{wordAt, stateAt}
 use Rattle.xosera.specs.Words.{wrap}
 use Rattle.xosera.specs.Adapter.{Adapter}
+use Rattle.xosera.specs.Plan.{perform}
 use Rattle.xosera.specs.XrSpace.{xrWrite}
-use Rattle.xosera.specs.Calls.{perform}
 use Rattle.xosera.proofs.WordLaws.{_takes_, stored-adapter}
 use borrow.Author.Needs.{needs}
 use Rattle.xr_port.proofs.write.Statement.{statement}

@@ -1,11 +1,11 @@
 -- 0x03, 0x49 and the others.
-use mathlib.Core.Path.{refl, ap, _∙_}
+use mathlib.Core.Path.{refl, _∙_}
 use mathlib.Core.List.{[], _∷_}
 use lib.Bits.{bitOr}
 use Rattle.xosera.specs.State.{wordAt, stateAt}
+use Rattle.xosera.specs.Fields.{frameEnded}
 use Rattle.xosera.proofs.WordLaws.{_takes_, stored-adapter}
-use Rattle.queue.specs.Work.{startedState}
-use Rattle.xr_port.proofs.Writes.{scanline-write, starting-write, register-write}
+use Rattle.xr_port.proofs.XrWrites.{scanline-write, starting-write, register-write}
 use borrow.Author.Needs.{needs}
 use Rattle.xr_port.proofs.write_register.Statement.{statement}
 use Rattle.xr_port.proofs.write_register.Tie as tie
@@ -25,7 +25,7 @@ returns c =
     let at-if1 = c .before in
     let entry = at-if1 .before .before in
     let ws = entry .args .s .now in
-    λ v x. stored-adapter ws (entry .pre .0) ((31 takes bitOr (wordAt ws 31) 16) ∷ []) refl v x
+    λ v x. stored-adapter ws (entry .pre .0) ((31 takes bitOr (wordAt ws 31) frameEnded) ∷ []) refl v x
     ∙ scanline-write (stateAt ws) v x (entry .args .at) (entry .args .w) (at-if1 .if1 .taken)
 
 store-register-requires : tie.Need-store-register-requires
@@ -44,8 +44,8 @@ returns-2 c =
     let at-store-register = at-if2 .before .before .before in
     let entry = at-store-register .before .before .before .before in
     let ws = entry .args .s .now in
-    let started = at-start .start .ensures ∙ ap startedState (at-store-register .store-register .ensures) in
-    λ v x. starting-write (stateAt ws) v x (entry .args .at) (entry .args .w) (at-if2 .if2 .taken) started
+    λ v x. starting-write (stateAt ws) v x (entry .args .at) (entry .args .w) (at-if2 .if2 .taken) (at-start .start .ensures v x)
+    (at-store-register .store-register .ensures)
 
 same-length-3 : tie.Need-same-length-3
 same-length-3 c = search needs

@@ -1,6 +1,6 @@
 -- Memory from 0x4000 on, a register below.
 use Rattle.xosera.specs.State.{stateAt}
-use Rattle.xr_port.proofs.Writes.{memory-write}
+use Rattle.xr_port.proofs.XrWrites.{memory-write}
 use borrow.Author.Needs.{needs}
 use Rattle.xr_port.proofs.write_xr.Statement.{statement}
 use Rattle.xr_port.proofs.write_xr.Tie as tie

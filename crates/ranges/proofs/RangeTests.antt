@@ -1,13 +1,14 @@
 -- A test that the code made, as the value of the test that the definition names.
 use mathlib.Core.Path.{_≡_, refl, sym, _∙_}
-use mathlib.Core.Bool.{Bool, true, false, not, _&&_, _||_}
+use mathlib.Core.Bool.{Bool, true, false, _&&_, _||_}
 use Prim.Native.Nat.{ℕ, _<_}
 use native.Mathlib.Omega.{arith}
 use native.Mathlib.Decide.{ℕ-discrete, decLt}
 use borrow.Author.Tests.{lt-leb, le-leb, lt-ltb, le-ltb, eq-eqb, ne-eqb}
-use lib.Dec.{eqb, leb, ltb}
+use lib.Dec.{leb, ltb}
 use Rattle.xosera.specs.declared.Engine.{Engine}
-use Rattle.xosera.specs.Refusals.{runningInRange}
+use Rattle.xosera.specs.Ranges.{startsEmpty, runningInRange}
+use Rattle.xosera.proofs.RangeLaws.{countdownTest}
 
 pub ruleset tests = (lt-leb, le-leb, eq-eqb, ne-eqb)
 
@@ -16,7 +17,7 @@ pub too-many-lines : (e : Engine) → 32767 < e .regs .lines → false ≡ runni
 unfolding runningInRange
 too-many-lines e more =
     rw (lt-leb (e .regs .lines) 32767 more)
-    (go (leb (e .line) (e .regs .lines)) (leb (e .word) (e .regs .words)) (not (eqb (e .word) 0) || eqb (e .kept) 0))
+    (go (leb (e .line) (e .regs .lines)) (leb (e .word) (e .regs .words)) (startsEmpty e))
   where
     go : (a b c : Bool) → false ≡ a && b && false && c
     go false b c = refl
@@ -24,9 +25,6 @@ too-many-lines e more =
     go true true c = refl
 
 -- The test of a countdown: at its interval, also where both are 0; stopped short of it; and below it.
-abbrev countdownTest : ℕ → ℕ → Bool
-countdownTest c i = leb 1 c && leb c i || eqb c 0 && eqb i 0
-
 pub at-interval : (c i : ℕ) → c ≡ i → true ≡ countdownTest c i
 at-interval c i e = pick (ℕ-discrete c 0)
   where

@@ -1,18 +1,14 @@
 -- A call that is refused and one that is done each keep the promise.
 use mathlib.Core.Path.{_≡_, sym, _∙_}
 use mathlib.Core.Bool.{true, false}
-use mathlib.Core.List.{[]}
 use Prim.Native.Nat.{ℕ}
 use borrow.Author.Tests.{eq-eqb, ne-eqb}
 use lib.Dec.{eqb}
-use Rattle.xosera.specs.State.{State}
-use Rattle.xosera.specs.Adapter.{Adapter, adapter}
+use Rattle.xosera.specs.Adapter.{Adapter}
 use Rattle.xosera.specs.Events.{Event}
-use Rattle.xosera.specs.Refusals.{inRange, refusal}
+use Rattle.xosera.specs.Refusals.{refusal}
 use Rattle.xosera.specs.Calls.{done, after, given, answer}
 use Rattle.xosera.proofs.Branches.{cond-yes, cond-no}
-use Rattle.xosera.proofs.RangeLaws.{range-facts}
-use Rattle.queue.specs.Work.{Ready}
 use Rattle.adapter.specs.Promises.{Does}
 
 pub refused : (a : Adapter) (e : Event) (r : ℕ) → r ≡ refusal a e → (r ≡ 0 → ⊥) → Does a e (record { refusal = r; value = 0 }) a
@@ -33,7 +29,3 @@ performed a e value b h g d =
       answers = λ i. record { refusal = sym h i; value = (g ∙ sym (cond-yes (given a e) 0 z)) i };
       leaves = d ∙ sym (cond-yes (done a e) a z);
     }
-
--- What blit steps need of a state in range.
-pub ready : (s : State) → inRange s ≡ true → Ready s
-ready s h = let f = range-facts (adapter s [] []) h in record { engine = f .engine; queue = f .queue }

@@ -10,8 +10,9 @@ use Rattle.xosera.specs.State.{State}
 use Rattle.xosera.specs.Memories.{isVramLength, isXrLength}
 use Rattle.xosera.specs.Adapter.{adapter}
 use Rattle.xosera.specs.Events.{Call, write, read, tick, frameEnd, line, call, step, run}
-use Rattle.xosera.specs.Refusals.{inRange, badVram, badXr, badState, badRegister, blitterFull, reconfigures, Test, _when_, tests, first, refusal}
-use Rattle.refusals.specs.Tested.{lentTests, lengthsRefusal, lentRefusal}
+use Rattle.xosera.specs.Ranges.{inRange}
+use Rattle.xosera.specs.Refusals.{badVram, badXr, badState, badRegister, blitterFull, reconfigures, Test, _when_, tests, first, refusal}
+use Rattle.refusals.specs.Tested.{lengthTests, lengthsRefusal, lentRefusal}
 
 abbrev three : Bool → Bool → Bool → List Test → List Test
 three a b c more = (1 when a) ∷ (2 when b) ∷ (3 when c) ∷ more
@@ -84,11 +85,11 @@ module _ (s : State) (v x : List ℕ) where
     lent-is : lent ≡ lentRefusal (length v) (length x) s
     lent-is = h ∙ ap₂ (λ (k l : ℕ). lentRefusal k l s) (sym p) (sym q)
 
-    first-of : (more : List Test) → (lent ≡ 0 → ⊥) → lent ≡ first (lentTests (length v) (length x) s more)
+    first-of : (more : List Test) → (lent ≡ 0 → ⊥) → lent ≡ first (lengthTests (length v) (length x) s more)
     unfolding lentRefusal
     first-of more d = lent-is ∙ three-first _ _ _ more (λ z. d (lent-is ∙ z))
 
-    passed-of : (more : List Test) → lent ≡ 0 → first (lentTests (length v) (length x) s more) ≡ first more
+    passed-of : (more : List Test) → lent ≡ 0 → first (lengthTests (length v) (length x) s more) ≡ first more
     unfolding lentRefusal
     passed-of more z = three-passed _ _ _ more (sym lent-is ∙ z)
 

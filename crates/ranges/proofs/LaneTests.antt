@@ -10,7 +10,7 @@ use borrow.Author.Tests.{lt-leb, le-leb, eq-eqb, ne-eqb}
 use lib.Bits.{bitAnd, bitOr, and-block, and-high, or-add-and, and-le-l, and-le-r}
 use lib.Dec.{eqb, leb}
 use lib.Pow.{pow-pos, shr-mod}
-use Rattle.xosera.specs.Refusals.{areBytes}
+use Rattle.xosera.specs.Ranges.{areBytes}
 use Rattle.ranges.specs.Lanes.{Lanes}
 
 abbrev pub lanes : ℕ → ℕ → ℕ → ℕ → ℕ

@@ -6,15 +6,16 @@ use native.Mathlib.Omega.{arith}
 use borrow.Author.Tests.{ne-eqb}
 use lib.Bits.{bitOr}
 use Rattle.xosera.specs.State.{State}
+use Rattle.xosera.specs.Fields.{frameEnded}
 use Rattle.xosera.specs.Memories.{stored}
-use Rattle.xosera.specs.Adapter.{changed, adapter}
+use Rattle.xosera.specs.Adapter.{Adapter, adapter}
+use Rattle.xosera.specs.Blitter.{blitStarted}
+use Rattle.xosera.specs.Plan.{changed, perform}
 use Rattle.xosera.specs.XrSpace as XrSpace
 use Rattle.xosera.specs.XrSpace.{within, videoWrite, blitWrite, xrMemoryWrite, xrWrite}
-use Rattle.xosera.specs.Calls.{perform}
 use Rattle.xr_memory.proofs.Parts.{below-range}
 use Rattle.xr_registers.specs.Places.{registerWritten}
 use Rattle.xr_registers.proofs.Registers.{no-video, no-blit}
-use Rattle.queue.specs.Work.{startedState}
 
 module _ (s : State) (v x : List ℕ) (a w : ℕ) where
   -- Past the registers only memory is written.
@@ -26,17 +27,17 @@ module _ (s : State) (v x : List ℕ) (a w : ℕ) where
 
   -- At 0x03 nothing is stored, and status bit 4 is set.
   abbrev raisedState : State
-  raisedState = record { host = s .host; queued = s .queued; status = bitOr (s .status) 16; engine = s .engine; video = s .video; blit = s .blit }
+  raisedState = record { host = s .host; queued = s .queued; status = bitOr (s .status) frameEnded; engine = s .engine; video = s .video; blit = s .blit }
 
   pub scanline-write : a ≡ 3 → adapter raisedState v x ≡ perform (xrWrite (adapter s v x .side) a w) (adapter s v x)
   unfolding xrWrite perform changed stored videoWrite blitWrite xrMemoryWrite XrSpace.put within
   scanline-write e = rw e
 
   -- At 0x49 a blit starts with the registers as they then stand.
-  pub starting-write : {t : State} → a ≡ 0x49 → t ≡ startedState (registerWritten s a w)
-      → adapter t v x ≡ perform (xrWrite (adapter s v x .side) a w) (adapter s v x)
+  pub starting-write : {b : Adapter} {t : State} → a ≡ 0x49 → b ≡ blitStarted (adapter t v x) → t ≡ registerWritten s a w
+      → b ≡ perform (xrWrite (adapter s v x .side) a w) (adapter s v x)
   unfolding xrWrite perform changed stored xrMemoryWrite within
-  starting-write e k = ap (λ (t : State). adapter t v x) k ∙ rw e
+  starting-write e k l = k ∙ ap (λ (t : State). blitStarted (adapter t v x)) l ∙ rw e
 
   -- Any other register is stored, or none.
   pub register-write : {t : State} → a < 0x4000 → (a ≡ 3 → ⊥) → (a ≡ 0x49 → ⊥) → t ≡ registerWritten s a w

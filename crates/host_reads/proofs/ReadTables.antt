@@ -8,10 +8,9 @@ use native.Mathlib.Decide.{decLt}
 use lib.ListN.{getD, List·getD-eq-default}
 use Rattle.xosera.specs.State.{Host, State}
 use Rattle.xosera.specs.HostBytes.{shown}
-use Rattle.xosera.specs.Adapter.{adapter}
-use Rattle.xosera.specs.Refusals.{inRange}
-use Rattle.xosera.proofs.RangeLaws.{range-facts, host-facts}
-use Rattle.xosera.proofs.WordLaws.{_and_, below}
+use Rattle.xosera.specs.Ranges.{inRange}
+use Rattle.xosera.proofs.Tables.{_and_, below-each}
+use Rattle.xosera.proofs.RangeLaws.{in-range-host, in-range-status, host-facts}
 
 -- Past three entries.
 pub past-three : (a b c d i : ℕ) → 3 ≤ i → d ≡ getD (a ∷ b ∷ c ∷ []) i d
@@ -28,7 +27,7 @@ unfolding shown
 unshown h r n = pick (decLt r 3) (decLt r 12)
   where
     pick : Dec (r < 3) → Dec (r < 12) → 0 ≡ getD (words h) r 0
-    pick (yes l) m = below (λ (i : ℕ). 0 ≡ getD (words h) i 0) 3 (refl and refl and refl and tt) r l
+    pick (yes l) m = below-each (λ (i : ℕ). 0 ≡ getD (words h) i 0) 3 (refl and refl and refl and tt) r l
     pick (no k) (yes l) = absurd (n (omega (arith, k)) l)
     pick (no k) (no m) = sym (List·getD-eq-default (words h) 0 {n = r} (omega (arith, m)))
 
@@ -41,11 +40,10 @@ pub record Bytes (s : State) : Type 0 where
 
 pub bytes-of : (s : State) → inRange s ≡ true → Bytes s
 bytes-of s k =
-    let f = range-facts (adapter s [] []) k in
-    let h = host-facts (s .host) (f .host) in
+    let h = host-facts (s .host) (in-range-host s k) in
     record {
       intmask = omega (arith, h .intmask);
       nibbles = omega (arith, h .nibbles);
-      status = omega (arith, f .status);
+      status = omega (arith, in-range-status s k);
       saved = omega (arith, h .saved);
     }
