@@ -2,20 +2,20 @@
 -- finish is to finish.
 use mathlib.Core.Path.{_≡_, refl, sym, ap, _∙_}
 use mathlib.Core.Bool.{Bool, true, false}
-use Prim.Native.Nat.{ℕ, zero, suc, _+_, _≤_}
+use Prim.Native.Nat.{ℕ, _+_, _≤_}
 use native.Mathlib.Nat.{le-refl}
 use native.Mathlib.Omega.{arith}
 use Rattle.xosera.specs.State.{isSet}
-use Rattle.xosera.specs.Adapter.{Adapter}
+use Rattle.xosera.specs.Adapter.{Adapter, stateOf}
 use Rattle.xosera.specs.Blitter.{idle, stepped, steps, wordsLeft}
+use Rattle.xosera.specs.Refusals.{Fit}
+use Rattle.xosera.proofs.Branches.{or-eq-false-iff}
+use Rattle.xosera.proofs.StepCases.{step-cases, stepped-idle, steps-keep}
+use Rattle.xosera.proofs.RangeLaws.{in-range-unqueued, stepped-side, steps-side}
+use Rattle.xosera.proofs.StepLaws.{running-stepped-left, steps-left, over-after}
 use Rattle.order.specs.Order.{blitReads, blitWrites}
-use Rattle.xosera.proofs.StepCases.{step-cases, stepped-idle}
-use Rattle.xosera.proofs.RangeLaws.{stepped-side, steps-side}
-use Rattle.xosera.proofs.StepLaws.{stepped-left, steps-left, over-after}
-use Rattle.order.specs.Work.{Fit}
-use Rattle.order.proofs.Tests.{or-eq-false-iff}
-use Rattle.order.proofs.Fit.{fit-range, fit-stepped, fit-steps, fit-idle, fit-unqueued}
-use Rattle.order.proofs.Status.{SameBits, stepped-status, steps-status}
+use Rattle.order.proofs.Fit.{stepped-fit, steps-fit, fit-idle}
+use Rattle.order.proofs.Status.{SameBits, stepped-status}
 
 -- An adapter with its pending work done.
 abbrev pub finished : Adapter → Adapter
@@ -41,7 +41,7 @@ pub record Within (reads writes : ℕ → Bool) (a : Adapter) : Type 0 where
 pub record OnCourse (full : Bool) (reads writes : ℕ → Bool) (n : ℕ) (a r : Adapter) : Type 0 where
   pub finishes : Finishes full a r
   pub within : Within reads writes a
-  pub left : wordsLeft a ≤ n
+  pub words-left : wordsLeft a ≤ n
 
 -- What holds of a running engine's step and of an adapter that stays holds of every step.
 by-engine : (a : Adapter) (P : Adapter → Type 0) → (isSet (a .engine .running) ≡ true → P (stepped a)) → P a → P (stepped a)
@@ -55,70 +55,53 @@ pub stepped-unqueued : (a : Adapter) → isSet (a .queued) ≡ false → isSet (
 stepped-unqueued a q = step-cases (λ (b : Adapter). isSet (b .queued) ≡ false) a (λ _. q) (λ _ _. refl) (λ _ _. q)
 
 module _ (a : Adapter) (fit : Fit a) where
-  left-running : isSet (a .engine .running) ≡ true → wordsLeft a ≡ suc (wordsLeft (stepped a))
-  left-running = stepped-left a (fit-range a fit)
-
-  finished-stepped : finished (stepped a) ≡ finished a
+  stepped-finished : finished (stepped a) ≡ finished a
   unfolding steps
-  finished-stepped = by-engine a (λ (b : Adapter). finished b ≡ finished a) (λ on. sym (ap (λ (n : ℕ). steps n a) (left-running on))) refl
+  stepped-finished =
+      by-engine a (λ (b : Adapter). finished b ≡ finished a) (λ on. sym (ap (λ (n : ℕ). steps n a) (running-stepped-left a (fit .state) on))) refl
 
-  within-stepped : {reads writes : ℕ → Bool} → Within reads writes a → Within reads writes (stepped a)
+  stepped-within : {reads writes : ℕ → Bool} → Within reads writes a → Within reads writes (stepped a)
   unfolding blitReads blitWrites
-  within-stepped {reads} {writes} within = by-engine a (λ (b : Adapter). Within reads writes b)
+  stepped-within {reads} {writes} within = by-engine a (λ (b : Adapter). Within reads writes b)
       (λ on. record {
-        unread = λ w h. (simp or-eq-false-iff at (rw (left-running on) at (within .unread w h))) .1;
-        unwritten = λ w h. (simp or-eq-false-iff at (rw (left-running on) at (within .unwritten w h))) .1;
+        unread = λ w h. (simp or-eq-false-iff at (rw (running-stepped-left a (fit .state) on) at (within .unread w h))) .1;
+        unwritten = λ w h. (simp or-eq-false-iff at (rw (running-stepped-left a (fit .state) on) at (within .unwritten w h))) .1;
       })
       within
 
-finishes-stepped : {full : Bool} (a r : Adapter) → Finishes full a r → Finishes full (stepped a) r
-finishes-stepped a r f = record {
-  fit = fit-stepped a (f .fit);
+stepped-finishes : {full : Bool} (a r : Adapter) → Finishes full a r → Finishes full (stepped a) r
+stepped-finishes a r f = record {
+  fit = stepped-fit a (f .fit);
   fit-ref = f .fit-ref;
   side = f .side ∙ sym (stepped-side a);
   engine = f .engine;
   unqueued = f .unqueued;
-  vram = f .vram ∙ ap (λ (b : Adapter). b .vram) (sym (finished-stepped a (f .fit)));
+  vram = f .vram ∙ ap (λ (b : Adapter). b .vram) (sym (stepped-finished a (f .fit)));
   status = f .status ∙ sym (stepped-status a);
   alone = λ no. stepped-unqueued a (f .alone no);
 }
 
--- A run is as many steps, and takes as many off the words left.
-finishes-steps : {full : Bool} (n : ℕ) (a r : Adapter) → Finishes full a r → Finishes full (steps n a) r
-unfolding steps
-finishes-steps zero a r f = f
-finishes-steps (suc n) a r f = finishes-steps n (stepped a) r (finishes-stepped a r f)
-
-within-steps : {reads writes : ℕ → Bool} (n : ℕ) (a : Adapter) → Fit a → Within reads writes a → Within reads writes (steps n a)
-unfolding steps
-within-steps zero a fit within = within
-within-steps (suc n) a fit within = within-steps n (stepped a) (fit-stepped a fit) (within-stepped a fit within)
-
-pub on-course-steps : {full : Bool} {reads writes : ℕ → Bool} (n m : ℕ) (a r : Adapter) →
+-- n steps take as many off the words left.
+pub steps-on-course : {full : Bool} {reads writes : ℕ → Bool} (n m : ℕ) (a r : Adapter) →
     OnCourse full reads writes (n + m) a r → OnCourse full reads writes m (steps n a) r
-on-course-steps n m a r h =
-    let fit : Fit a = h .finishes .fit in
-    record {
-      finishes = finishes-steps n a r (h .finishes);
-      within = within-steps n a fit (h .within);
-      left = rw (steps-left n a (fit-range a fit)) (let left : wordsLeft a ≤ n + m = h .left in omega arith);
-    }
+steps-on-course {full} {reads} {writes} n m a r h =
+    let whole =
+    steps-keep (λ (b : Adapter). Finishes full b r × Within reads writes b)
+    (λ b k. (stepped-finishes b r (k .0), stepped-within b (k .0 .fit) (k .1))) n a (h .finishes, h .within) in
+    record { finishes = whole .0; within = whole .1; words-left = omega (arith, steps-left n a (h .finishes .fit .state), h .words-left) }
 
 -- Pending work that is all done: nothing runs and nothing is queued.
-module _ (a : Adapter) (fit : Fit a) where
-  finished-off : isSet (finished a .engine .running) ≡ false
-  finished-off = over-after (wordsLeft a) a (fit-range a fit) (le-refl (wordsLeft a))
-
-  pub finishes : {full : Bool} → (full ≡ false → isSet (a .queued) ≡ false) → Finishes full a (finished a)
-  finishes alone =
-      let fit' : Fit (finished a) = fit-steps (wordsLeft a) a fit in
-      record {
-        fit = fit;
-        fit-ref = fit';
-        side = steps-side (wordsLeft a) a;
-        engine = fit-idle (finished a) fit' finished-off;
-        unqueued = fit-unqueued (finished a) fit' finished-off;
-        vram = refl;
-        status = steps-status (wordsLeft a) a;
-        alone = alone;
-      }
+pub finished-finishes : {full : Bool} (a : Adapter) → Fit a → (full ≡ false → isSet (a .queued) ≡ false) → Finishes full a (finished a)
+finished-finishes a fit alone =
+    let fit-ref : Fit (finished a) = steps-fit a fit (wordsLeft a) in
+    let off : isSet (finished a .engine .running) ≡ false = over-after (wordsLeft a) a (fit .state) (le-refl (wordsLeft a)) in
+    record {
+      fit = fit;
+      fit-ref = fit-ref;
+      side = steps-side (wordsLeft a) a;
+      engine = fit-idle (finished a) fit-ref off;
+      unqueued = in-range-unqueued (stateOf (finished a)) (fit-ref .state) off;
+      vram = refl;
+      status = steps-keep (λ (b : Adapter). SameBits (b .status) (a .status)) (λ b h. stepped-status b ∙ h) (wordsLeft a) a refl;
+      alone = alone;
+    }

@@ -2,3 +2,4 @@
 pub mod Order
 pub mod Work
 pub mod Witness
+pub mod Needed

@@ -10,7 +10,7 @@ use Rattle.xosera.specs.Words.{wrap, withoutBit}
 use Rattle.xosera.specs.Memories.{place}
 use Rattle.xosera.specs.Adapter.{Adapter}
 use Rattle.xosera.specs.HostBytes.{wordOf}
-use Rattle.xosera.specs.Blitter.{isConstant, drawing, stepped}
+use Rattle.xosera.specs.Blitter.{isConstant, fetched, drawing, stepped}
 use Rattle.xosera.specs.Events.{Call, Event, Answer, write, read, tick, frameEnd, line, call, step, run}
 use Rattle.xosera.specs.Refusals.{refusal}
 use Rattle.xosera.specs.Calls.{after, answer}
@@ -36,7 +36,9 @@ readsNow a w = isSet (a .engine .running) && not (isConstant (a .engine)) && eqb
 
 -- Whether the next blit step writes a nibble of a VRAM word, also with the value it had.
 unfoldable pub writesNow : Adapter → ℕ → Bool
-writesNow a w = isSet (a .engine .running) && not (eqb (drawing (a .engine) (a .vram) .mask) 0) && eqb (place (a .vram) (a .engine .regs .dstd)) w
+writesNow a w =
+    isSet (a .engine .running) && not (eqb (drawing (a .engine) (fetched (a .engine) (a .vram)) .mask) 0)
+    && eqb (place (a .vram) (a .engine .regs .dstd)) w
 
 -- The words that a blit reads, and those that it writes, found by doing n steps alone. Words are told apart by their
 -- address modulo the VRAM length.
@@ -52,7 +54,8 @@ blitWrites (suc n) a w = writesNow a w || blitWrites n (stepped a) w
 unfoldable pub accepted : Adapter → Event → Bool
 accepted a e = eqb (refusal a e) 0
 
--- An access writes a word when it is an odd write to 10 or 11, not refused, under a nibble mask other than 0: the word at 9.
+-- An access writes a word when it is an odd write to 10 or 11, not refused, under a nibble mask other than 0: the word at
+-- 9, before 9 moves on.
 unfoldable pub callWrites : Adapter → Call → ℕ → Bool
 callWrites a (write r odd b) w =
     odd && (eqb r 10 || eqb r 11) && accepted a (call (write r odd b))
@@ -81,19 +84,36 @@ callStarts a tick = false
 callStarts a frameEnd = false
 callStarts a line = false
 
--- An access that starts or queues no blit, writes no word of `reads` or `writes`, and loads no word of `writes`.
-pub record Apart (reads writes : ℕ → Bool) (a : Adapter) (c : Call) : Type 0 where
-  pub starts-none : callStarts a c ≡ false
-  pub writes-none-read : (w : ℕ) → callWrites a c w ≡ true → reads w ≡ false
-  pub writes-none-written : (w : ℕ) → callWrites a c w ≡ true → writes w ≡ false
-  pub loads-none-written : (w : ℕ) → callLoads a c w ≡ true → writes w ≡ false
+-- A fold over the calls of a list, each with the adapter that the event before it left; blit steps and runs are passed over.
+abbrev pub alongCalls {ℓ} : {B : Type ℓ} → (Adapter → Call → B → B) → B → Adapter → List Event → B
+alongCalls f z a [] = z
+alongCalls f z a (call c ∷ es) = f a c (alongCalls f z (after a (call c)) es)
+alongCalls f z a (step ∷ es) = alongCalls f z (after a step) es
+alongCalls f z a (run n ∷ es) = alongCalls f z (after a (run n)) es
 
--- Every access of a list is so, each judged on what the event before it left.
-abbrev pub AllApart : (ℕ → Bool) → (ℕ → Bool) → Adapter → List Event → Type 0
-AllApart reads writes a [] = Unit {0}
-AllApart reads writes a (call c ∷ es) = Apart reads writes a c × AllApart reads writes (after a (call c)) es
-AllApart reads writes a (step ∷ es) = AllApart reads writes (after a step) es
-AllApart reads writes a (run n ∷ es) = AllApart reads writes (after a (run n)) es
+-- What holds of every call of a list, and the list of what each call gives.
+abbrev pub AllCalls : (Adapter → Call → Type 0) → Adapter → List Event → Type 0
+AllCalls P = alongCalls (λ a c rest. P a c × rest) (Unit {0})
+
+abbrev pub eachCall : {B : Type 0} → (Adapter → Call → B) → Adapter → List Event → List B
+eachCall f = alongCalls (λ a c rest. f a c ∷ rest) []
+
+-- What the mission asks of a list: at least as many steps in all as the blit has words, and no access that starts or queues another
+-- blit, writes a word that this one reads, writes a word that it writes, or loads a word that it writes.
+pub data Condition : Type 0 where
+  enoughSteps startsNone writesNoneRead writesNoneWritten loadsNoneWritten : Condition
+
+-- What each asks of a list from s, where the next n steps are the blit's.
+abbrev pub Holds : Condition → ℕ → Adapter → List Event → Type 0
+Holds enoughSteps n s es = n ≤ stepsIn es
+Holds startsNone n s es = AllCalls (λ a c. callStarts a c ≡ false) s es
+Holds writesNoneRead n s es = AllCalls (λ a c. (w : ℕ) → callWrites a c w ≡ true → blitReads n s w ≡ false) s es
+Holds writesNoneWritten n s es = AllCalls (λ a c. (w : ℕ) → callWrites a c w ≡ true → blitWrites n s w ≡ false) s es
+Holds loadsNoneWritten n s es = AllCalls (λ a c. (w : ℕ) → callLoads a c w ≡ true → blitWrites n s w ≡ false) s es
+
+-- A list that meets them all.
+abbrev pub Keeps : ℕ → Adapter → List Event → Type 0
+Keeps n s es = (k : Condition) → Holds k n s es
 
 -- The bits of an answer that must agree: all but bit 6 as read at 1, bit 13 as read at 0 (bit 5 of its high byte) and the
 -- line question's yes or no.
@@ -105,31 +125,25 @@ agreed tick v = v
 agreed frameEnd v = v
 agreed line v = 0
 
--- The answers of the events that stand in both orders, but for those bits; the refusal is included.
-unfoldable pub answers : Adapter → List Event → List Answer
-answers a [] = []
-answers a (call c ∷ es) = record { refusal = answer a (call c) .refusal; value = agreed c (answer a (call c) .value) } ∷ answers (after a (call c)) es
-answers a (step ∷ es) = answers (after a step) es
-answers a (run n ∷ es) = answers (after a (run n)) es
+-- A call's answer, its refusal included, by the bits that must agree; and the answers of a list's calls.
+unfoldable pub answered : (Call → ℕ → ℕ) → Adapter → Call → Answer
+answered agree a c = record { refusal = answer a (call c) .refusal; value = agree c (answer a (call c) .value) }
+
+abbrev pub answers : (Call → ℕ → ℕ) → Adapter → List Event → List Answer
+answers agree = eachCall (answered agree)
 
 -- All VRAM words, all XR words and every part of the state, but for status bit 6.
 unfoldable pub butBit6 : Adapter → Adapter
 butBit6 a = record { side = a .side; status = withoutBit 6 (a .status); queued = a .queued; engine = a .engine; vram = a .vram }
 
+-- A list from one adapter and a list from another end alike, and their calls answer alike.
+pub record Alike (agree : Call → ℕ → ℕ) (a : Adapter) (es : List Event) (b : Adapter) (fs : List Event) : Type 0 where
+  pub ends : butBit6 (afterAll a es) ≡ butBit6 (afterAll b fs)
+  pub answer-alike : answers agree a es ≡ answers agree b fs
+
 -- The order that a list is held against: W times L blit steps, then the list without its steps and runs.
 unfoldable pub blitFirst : ℕ → List Event → List Event
 blitFirst n es = replicate n step ++ withoutSteps es
-
--- Two lists of events end alike and their calls answer alike.
-pub record Alike (a : Adapter) (es fs : List Event) : Type 0 where
-  pub ends : butBit6 (afterAll a es) ≡ butBit6 (afterAll a fs)
-  pub answer-alike : answers a es ≡ answers a fs
-
--- What the mission asks of a list that follows a start: W times L steps or more in all, and no access that starts or queues
--- another blit, writes a word that this one reads or writes, or loads a word that it writes.
-pub record Keeps (s : Adapter) (es : List Event) : Type 0 where
-  pub enough : wordsOf s ≤ stepsIn es
-  pub apart : AllApart (blitReads (wordsOf s) s) (blitWrites (wordsOf s) s) s es
 
 -- Demand 3: for every adapter, start and list of events that keeps these rules, memory and state end as if the whole blit had
 -- been done at its start and the other events had followed, and every event that stands in both orders answers alike.
@@ -138,5 +152,5 @@ Demand3 =
     (a : Adapter) (b : ℕ) (es : List Event) →
     Starts a b →
     let s = after a (startWith b) in
-    Keeps s es →
-    Alike s es (blitFirst (wordsOf s) es)
+    Keeps (wordsOf s) s es →
+    Alike agreed s es s (blitFirst (wordsOf s) es)

@@ -1,5 +1,5 @@
 -- Laws of lists of events that belong to no one function.
-pub mod Lists
+pub mod PlayedLists
 pub mod Playing
 pub mod OrderOfCalls
 pub mod StepsOfCalls

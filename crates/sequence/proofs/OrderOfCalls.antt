@@ -5,18 +5,17 @@ use mathlib.Core.List.{List, [], _∷_}
 use Prim.Native.Nat.{ℕ}
 use Rattle.xosera.specs.Adapter.{Adapter}
 use Rattle.xosera.specs.Events.{Event, Answer, call, step, run}
-use Rattle.xosera.specs.Calls.{after, answer}
-use Rattle.xosera.specs.Sequences.{startWith, Starts, wordsOf}
-use Rattle.order.specs.Order.{Keeps, agreed, answers, Alike, butBit6, blitFirst}
+use Rattle.xosera.specs.Calls.{after}
+use Rattle.xosera.specs.Sequences.{startWith, Starts, wordsOf, allAnswers}
+use Rattle.order.specs.Order.{Keeps, agreed, answered, answers, Alike, butBit6, blitFirst}
 use Rattle.order.proofs.Demand3.{demand-3}
-use Rattle.sequence.specs.Played.{allAnswers, agreedAnswers, Played}
+use Rattle.sequence.specs.Played.{agreedAnswers, Played}
 
 -- Of all answers those that demand 3 compares.
-compared : (a : Adapter) (es : List Event) → agreedAnswers es (allAnswers a es) ≡ answers a es
-unfolding agreedAnswers allAnswers answers
+compared : (a : Adapter) (es : List Event) → agreedAnswers es (allAnswers a es) ≡ answers agreed a es
+unfolding agreedAnswers allAnswers answered
 compared a [] = refl
-compared a (call c ∷ es) =
-    ap (λ (l : List Answer). record { refusal = answer a (call c) .refusal; value = agreed c (answer a (call c) .value) } ∷ l) (compared (after a (call c)) es)
+compared a (call c ∷ es) = ap (λ (l : List Answer). answered agreed a c ∷ l) (compared (after a (call c)) es)
 compared a (step ∷ es) = compared (after a step) es
 compared a (run n ∷ es) = compared (after a (run n)) es
 
@@ -26,11 +25,11 @@ pub record CallsAlike (es fs : List Event) (c d : Adapter) (told first : List An
 
 pub calls-alike : (a : Adapter) (b : ℕ) (es : List Event) (c d : Adapter) (told first : List Answer) → Starts a b →
     let s = after a (startWith b) in
-    Keeps s es → Played s es told c → Played s (blitFirst (wordsOf s) es) first d → CallsAlike es (blitFirst (wordsOf s) es) c d told first
+    Keeps (wordsOf s) s es → Played s es told c → Played s (blitFirst (wordsOf s) es) first d → CallsAlike es (blitFirst (wordsOf s) es) c d told first
 calls-alike a b es c d told first starts keeps p q =
     let s : Adapter = after a (startWith b) in
     let fs : List Event = blitFirst (wordsOf s) es in
-    let alike : Alike s es fs = demand-3 a b es starts keeps in
+    let alike : Alike agreed s es s fs = demand-3 a b es starts keeps in
     record {
       ends = ap butBit6 (p .leaves) ∙ alike .ends ∙ sym (ap butBit6 (q .leaves));
       answer-alike =

@@ -7,10 +7,10 @@ use lib.ListN.{length, take, drop, set}
 use Rattle.xosera.specs.Adapter.{Adapter}
 use Rattle.xosera.specs.Events.{Event, Answer}
 use Rattle.xosera.specs.Calls.{after}
-use Rattle.xosera.specs.Sequences.{afterAll}
+use Rattle.xosera.specs.Sequences.{afterAll, allAnswers}
 use Rattle.adapter.specs.Promises.{Does}
-use Rattle.sequence.specs.Played.{answersOf, allAnswers, Played}
-use Rattle.sequence.proofs.Lists.{answers-more, answers-all}
+use Rattle.sequence.specs.Played.{answersOf, Played}
+use Rattle.sequence.proofs.PlayedLists.{answers-more, answers-all}
 
 pub record Playing (a : Adapter) (es : List Event) (b : Adapter) (i : ℕ) (rs vs : List ℕ) : Type 0 where
   pub ahead : afterAll b (drop i es) ≡ afterAll a es

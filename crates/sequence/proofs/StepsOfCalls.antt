@@ -1,7 +1,7 @@
 -- Demand 2 of the calls themselves: a blit step does one word, a blit of W words by L lines ends on step W x L and no sooner,
 -- and a run counts the smaller of n and the words left and leaves the rest.
 use mathlib.Core.Path.{_≡_, refl, sym, ap, _∙_}
-use mathlib.Core.Bool.{true, false, true≢false}
+use mathlib.Core.Bool.{true, false}
 use mathlib.Core.List.{List, [], append-nil}
 use Prim.Native.Nat.{ℕ, _-_, _≤_, _<_, min}
 use native.Mathlib.Omega.{arith}
@@ -13,40 +13,40 @@ use Rattle.xosera.specs.Events.{Event, Answer, step, run}
 use Rattle.xosera.specs.Refusals.{refusal}
 use Rattle.xosera.specs.Calls.{done, after, given, answer}
 use Rattle.xosera.specs.Sequences.{startWith, Starts, wordsOf, afterAll}
+use Rattle.xosera.proofs.Branches.{clash}
 use Rattle.xosera.proofs.RefusalLaws.{accepted-in-range}
 use Rattle.xosera.proofs.StepCases.{step-cases}
 use Rattle.xosera.proofs.StepLaws.{steps-left, running-some-left, idle-none-left, blit-ends-on-its-last-step}
 use Rattle.adapter.specs.Promises.{Does}
-use Rattle.order.proofs.Fit.{fit-after}
-use Rattle.order.proofs.OrderOfWork.{ends-after-steps}
-use Rattle.order.proofs.Demand3.{start-fit}
+use Rattle.order.proofs.OrderOfWork.{steps-first-end}
+use Rattle.order.proofs.Demand3.{started-fit}
 use Rattle.sequence.specs.Played.{Played}
 
 -- What a call that was done promises.
 module _ {a b : Adapter} {e : Event} {v : ℕ} (d : Does a e (record { refusal = 0; value = v }) b) where
-  accepted : refusal a e ≡ 0
+  does-accepted : refusal a e ≡ 0
   unfolding answer
-  accepted = sym (ap (λ (x : Answer). x .refusal) (d .answers))
+  does-accepted = sym (ap (λ (x : Answer). x .refusal) (d .answers))
 
-  gives : v ≡ given a e
+  does-gives : v ≡ given a e
   unfolding answer
-  gives = ap (λ (x : Answer). x .value) (d .answers) ∙ rw accepted
+  does-gives = ap (λ (x : Answer). x .value) (d .answers) ∙ rw does-accepted
 
-  leaves : b ≡ done a e
+  does-leaves : b ≡ done a e
   unfolding after
-  leaves = d .leaves ∙ rw accepted
+  does-leaves = d .leaves ∙ rw does-accepted
 
 -- A step on a running engine draws the engine's next word and no other, and counts 1; on an idle one it counts 0.
 drawn-word : (a : Adapter) → isSet (a .engine .running) ≡ true → stepped a .vram ≡ drawn (a .engine) (a .vram)
 drawn-word a r =
-    step-cases (λ (c : Adapter). c .vram ≡ drawn (a .engine) (a .vram)) a (λ i. absurd (true≢false (sym r ∙ i))) (λ _ _. refl) (λ _ _. refl)
+    step-cases (λ (c : Adapter). c .vram ≡ drawn (a .engine) (a .vram)) a (λ i. absurd (clash r i)) (λ _ _. refl) (λ _ _. refl)
 
 pub step-draws-one-word : {a b : Adapter} {v : ℕ} → Does a step (record { refusal = 0; value = v }) b → isSet (a .engine .running) ≡ true
     → (v ≡ 1) × (b .vram ≡ drawn (a .engine) (a .vram))
 unfolding done given
 step-draws-one-word {a} {b} {v} d r = (
-  gives d ∙ one (running-some-left a (accepted-in-range a step (accepted d)) r),
-  ap (λ (c : Adapter). c .vram) (leaves d) ∙ drawn-word a r,
+  does-gives d ∙ one (running-some-left a (accepted-in-range a step (does-accepted d)) r),
+  ap (λ (c : Adapter). c .vram) (does-leaves d) ∙ drawn-word a r,
 )
   where
     one : 0 < wordsLeft a → min 1 (wordsLeft a) ≡ 1
@@ -54,7 +54,7 @@ step-draws-one-word {a} {b} {v} d r = (
 
 pub idle-step-draws-none : {a b : Adapter} {v : ℕ} → Does a step (record { refusal = 0; value = v }) b → isSet (a .engine .running) ≡ false → v ≡ 0
 unfolding given
-idle-step-draws-none {a} {b} {v} d r = gives d ∙ none (idle-none-left a (accepted-in-range a step (accepted d)) r)
+idle-step-draws-none {a} {b} {v} d r = does-gives d ∙ none (idle-none-left a (accepted-in-range a step (does-accepted d)) r)
   where
     none : wordsLeft a ≡ 0 → min 1 (wordsLeft a) ≡ 0
     none h = omega arith
@@ -70,7 +70,7 @@ blit-ends-on-its-last-call a c b n told starts p =
     let ends = blit-ends-on-its-last-step a b starts in
     let there : c ≡ steps n s =
     p .leaves ∙ ap (afterAll s) (sym (append-nil (replicate n step)))
-    ∙ ends-after-steps n s [] (fit-after a (startWith b) (start-fit a b (starts .accepted))) in
+    ∙ steps-first-end n s [] (started-fit a b starts) in
     let same : isSet (c .engine .running) ≡ isSet (steps n s .engine .running) = ap (λ (x : Adapter). isSet (x .engine .running)) there in
     (λ h. same ∙ ends .runs n h, λ h. same ∙ ends .over n h)
 
@@ -79,6 +79,6 @@ pub run-counts-words-left : {a b : Adapter} {n v : ℕ} → Does a (run n) (reco
     (wordsLeft b ≡ wordsLeft a - n)
 unfolding done given
 run-counts-words-left {a} {b} {n} {v} d = (
-  gives d,
-  ap wordsLeft (leaves d) ∙ steps-left n a (accepted-in-range a (run n) (accepted d)),
+  does-gives d,
+  ap wordsLeft (does-leaves d) ∙ steps-left n a (accepted-in-range a (run n) (does-accepted d)),
 )

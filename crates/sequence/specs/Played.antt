@@ -8,8 +8,7 @@ use lib.ListN.{getD}
 use Rattle.sequence.specs.declared.Outcome.{Outcome}
 use Rattle.xosera.specs.Adapter.{Adapter}
 use Rattle.xosera.specs.Events.{Event, Answer, write, read, tick, frameEnd, line, call, step, run}
-use Rattle.xosera.specs.Calls.{after, answer}
-use Rattle.xosera.specs.Sequences.{afterAll}
+use Rattle.xosera.specs.Sequences.{afterAll, allAnswers}
 use Rattle.order.specs.Order.{agreed}
 
 -- The answer that an outcome stands for.
@@ -37,11 +36,6 @@ unfoldable pub answersOf : List ℕ → List ℕ → List Answer
 answersOf [] values = []
 answersOf (r ∷ refusals) [] = []
 answersOf (r ∷ refusals) (v ∷ values) = record { refusal = r; value = v } ∷ answersOf refusals values
-
--- The answers of all events of a list, steps and runs included.
-unfoldable pub allAnswers : Adapter → List Event → List Answer
-allAnswers a [] = []
-allAnswers a (e ∷ es) = answer a e ∷ allAnswers (after a e) es
 
 -- Of the answers to a list of events those of the calls, but for the bits that may differ (document 01, "The order of things").
 unfoldable pub agreedAnswers : List Event → List Answer → List Answer

@@ -1,4 +1,5 @@
 // A list of events played through the public calls, each given what the one before it left.
+use xosera::STATE_WORDS;
 ghost use mathlib.Core.Path.{_≡_};
 ghost use mathlib.Core.List.{List};
 ghost use Prim.Native.Nat.{ℕ, _/_, _%_};
@@ -14,7 +15,13 @@ pub struct Outcome {
     pub value: u64,
 }
 
-fn write(s: &mut [u16; 75], vram: &mut [u16], xr: &mut [u16], odd: bool, arg: u64) -> Outcome
+fn write(
+    s: &mut [u16; STATE_WORDS],
+    vram: &mut [u16],
+    xr: &mut [u16],
+    odd: bool,
+    arg: u64,
+) -> Outcome
     ensures { λ r. ⌜
         Does (adapterAt (now (s .entry)) (now (vram .entry)) (now (xr .entry))) (call (write (arg % 256) odd (arg / 256 % 256)))
         (ofOutcome r) (adapterAt (now (s .exit)) (now (vram .exit)) (now (xr .exit)))
@@ -35,7 +42,7 @@ fn wide(x: u8) -> u64
     x as u64
 }
 
-fn read(s: &mut [u16; 75], vram: &[u16], xr: &[u16], odd: bool, arg: u64) -> Outcome
+fn read(s: &mut [u16; STATE_WORDS], vram: &[u16], xr: &[u16], odd: bool, arg: u64) -> Outcome
     ensures { λ r. ⌜
         Does (adapterAt (now (s .entry)) (now (vram .entry)) (now (xr .entry))) (call (read (arg % 256) odd)) (ofOutcome r)
         (adapterAt (now (s .exit)) (now (vram .entry)) (now (xr .entry)))
@@ -50,7 +57,7 @@ fn read(s: &mut [u16; 75], vram: &[u16], xr: &[u16], odd: bool, arg: u64) -> Out
     }
 }
 
-fn line(s: &[u16; 75]) -> Outcome
+fn line(s: &[u16; STATE_WORDS]) -> Outcome
     ensures { λ r. ⌜ ((v x : List ℕ) → Does (adapterAt (now (s .entry)) v x) (call line) (ofOutcome r) (adapterAt (now (s .entry)) v x)) ⌝ }
 {
     let a = adapter::interrupt_line(s);
@@ -66,7 +73,7 @@ fn line(s: &[u16; 75]) -> Outcome
     }
 }
 
-fn tick(s: &mut [u16; 75]) -> Outcome
+fn tick(s: &mut [u16; STATE_WORDS]) -> Outcome
     ensures { λ r. ⌜ ((v x : List ℕ) → Does (adapterAt (now (s .entry)) v x) (call tick) (ofOutcome r) (adapterAt (now (s .exit)) v x)) ⌝ }
 {
     let a = adapter::timer_tick(s);
@@ -76,7 +83,7 @@ fn tick(s: &mut [u16; 75]) -> Outcome
     }
 }
 
-fn frame_end(s: &mut [u16; 75]) -> Outcome
+fn frame_end(s: &mut [u16; STATE_WORDS]) -> Outcome
     ensures { λ r. ⌜ ((v x : List ℕ) → Does (adapterAt (now (s .entry)) v x) (call frameEnd) (ofOutcome r) (adapterAt (now (s .exit)) v x)) ⌝ }
 {
     let a = adapter::frame_end(s);
@@ -86,7 +93,7 @@ fn frame_end(s: &mut [u16; 75]) -> Outcome
     }
 }
 
-fn step(s: &mut [u16; 75], vram: &mut [u16], xr: &[u16]) -> Outcome
+fn step(s: &mut [u16; STATE_WORDS], vram: &mut [u16], xr: &[u16]) -> Outcome
     ensures { λ r. ⌜
         Does (adapterAt (now (s .entry)) (now (vram .entry)) (now (xr .entry))) step (ofOutcome r)
         (adapterAt (now (s .exit)) (now (vram .exit)) (now (xr .entry)))
@@ -99,7 +106,7 @@ fn step(s: &mut [u16; 75], vram: &mut [u16], xr: &[u16]) -> Outcome
     }
 }
 
-fn run(s: &mut [u16; 75], vram: &mut [u16], xr: &[u16], n: u64) -> Outcome
+fn run(s: &mut [u16; STATE_WORDS], vram: &mut [u16], xr: &[u16], n: u64) -> Outcome
     ensures { λ r. ⌜
         Does (adapterAt (now (s .entry)) (now (vram .entry)) (now (xr .entry))) (run n) (ofOutcome r)
         (adapterAt (now (s .exit)) (now (vram .exit)) (now (xr .entry)))
@@ -113,7 +120,13 @@ fn run(s: &mut [u16; 75], vram: &mut [u16], xr: &[u16], n: u64) -> Outcome
 }
 
 // One event, by its kind and argument.
-pub fn apply(s: &mut [u16; 75], vram: &mut [u16], xr: &mut [u16], kind: u8, arg: u64) -> Outcome
+pub fn apply(
+    s: &mut [u16; STATE_WORDS],
+    vram: &mut [u16],
+    xr: &mut [u16],
+    kind: u8,
+    arg: u64,
+) -> Outcome
     ensures { λ r. ⌜
         Does (adapterAt (now (s .entry)) (now (vram .entry)) (now (xr .entry))) (eventOf kind arg) (ofOutcome r)
         (adapterAt (now (s .exit)) (now (vram .exit)) (now (xr .exit)))
@@ -134,7 +147,7 @@ pub fn apply(s: &mut [u16; 75], vram: &mut [u16], xr: &mut [u16], kind: u8, arg:
 
 // A list of events, one after another; each one's answer goes to its place in the two lists of answers.
 pub fn play(
-    s: &mut [u16; 75],
+    s: &mut [u16; STATE_WORDS],
     vram: &mut [u16],
     xr: &mut [u16],
     kinds: &[u8],

@@ -1,9 +1,9 @@
 -- By the arm that was taken.
 use mathlib.Core.Path.{_≡_, refl}
 use Prim.Native.Nat.{ℕ}
-use Rattle.xosera.proofs.WordLaws.{_and_, below}
+use Rattle.xosera.proofs.Tables.{_and_, below-each}
 use Rattle.sequence.specs.Played.{eventOf}
-use Rattle.sequence.proofs.Lists.{else-run}
+use Rattle.sequence.proofs.PlayedLists.{else-run}
 use borrow.Author.Needs.{needs}
 use Rattle.sequence.proofs.apply.Statement.{statement}
 use Rattle.sequence.proofs.apply.Tie as tie
@@ -134,7 +134,7 @@ returns-9 c =
     let kind = start .args .kind in
     let none = n .0 .0 .0 .0 .0 .0 .0 .1 and n .0 .0 .0 .0 .0 .0 .1 and n .0 .0 .0 .0 .0 .1 and n .0 .0 .0 .0 .1 and n .0 .0 .0 .1 and n .0 .0 .1 and
     n .0 .1 and n .1 and tt in
-    rw (← else-run kind (start .args .arg) (λ l. below (λ (k : ℕ). kind ≡ k → ⊥) 8 none kind l refl)) (at-run .run .ensures)
+    rw (← else-run kind (start .args .arg) (λ l. below-each (λ (k : ℕ). kind ≡ k → ⊥) 8 none kind l refl)) (at-run .run .ensures)
 
 pub apply-spec : {M : Type 1} → statement M
 apply-spec =

@@ -6,7 +6,7 @@ use borrow.Author.Needs.{scaled-fits}
 use lib.ListN.{length, length-set}
 use Rattle.xosera.specs.Adapter.{adapterAt}
 use Rattle.sequence.specs.Played.{eventsOf}
-use Rattle.sequence.proofs.Lists.{events-next, events-none}
+use Rattle.sequence.proofs.PlayedLists.{events-next, events-none}
 use Rattle.sequence.proofs.Playing.{Playing, playing-start, playing-on, playing-done}
 use Rattle.sequence.proofs.play.Statement.{statement}
 use Rattle.sequence.proofs.play.Tie as tie

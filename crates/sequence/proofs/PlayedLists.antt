@@ -1,7 +1,7 @@
 -- Lists of numbers read as events and answers, from a place on and up to a place.
 use mathlib.Core.Path.{_≡_, refl, sym, ap}
 use mathlib.Core.List.{List, [], _∷_, _++_}
-use Prim.Native.Nat.{ℕ, zero, suc, _+_, _≤_, _<_}
+use Prim.Native.Nat.{ℕ, zero, suc, _≤_, _<_}
 use native.Mathlib.Omega.{arith}
 use lib.ListN.{length, getD, take, drop, set, List·getD-eq-default}
 use Rattle.xosera.specs.Events.{Answer, run}

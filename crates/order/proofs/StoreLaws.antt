@@ -10,10 +10,9 @@ use lib.Seq.{set-comm}
 use borrow.Author.Tests.{eqb-true, eqb-false, eq-eqb}
 use Rattle.xosera.specs.Words.{merged}
 use Rattle.xosera.specs.Memories.{place, word, Store, stored}
-use Rattle.xosera.proofs.Branches.{cond-no}
+use Rattle.xosera.proofs.Branches.{cond-no, clash, not-passed}
 use Rattle.xosera.proofs.MaskLaws.{stored-none, stored-elsewhere}
 use Rattle.xosera.proofs.EngineLaws.{stored-length}
-use Rattle.order.proofs.Tests.{clash, not-passed}
 
 -- Whether a store writes a nibble of the word at place w.
 unfoldable pub touches : Store → List ℕ → ℕ → Bool
@@ -25,12 +24,12 @@ unfolding place
 stored-place k v x = ap (λ (n : ℕ). x % n) (stored-length k v)
 
 -- The two cases of a store.
-nothing-stored : (k : Store) (v : List ℕ) → eqb (k .mask) 0 ≡ true → stored k v ≡ v
-nothing-stored k v e = stored-none k v (eqb-true (k .mask) 0 e)
+stored-same : (k : Store) (v : List ℕ) → eqb (k .mask) 0 ≡ true → stored k v ≡ v
+stored-same k v e = stored-none k v (eqb-true (k .mask) 0 e)
 
-word-stored : (k : Store) (v : List ℕ) → eqb (k .mask) 0 ≡ false → stored k v ≡ set v (place v (k .addr)) (merged (k .mask) (word v (k .addr)) (k .value))
+stored-set : (k : Store) (v : List ℕ) → eqb (k .mask) 0 ≡ false → stored k v ≡ set v (place v (k .addr)) (merged (k .mask) (word v (k .addr)) (k .value))
 unfolding stored
-word-stored k v e = cond-no _ _ e
+stored-set k v e = cond-no _ _ e
 
 -- A store with a mask other than 0 touches the word at its address.
 touches-some : (k : Store) (v : List ℕ) (w : ℕ) → eqb (k .mask) 0 ≡ false → touches k v w ≡ eqb (place v (k .addr)) w
@@ -46,7 +45,7 @@ unfolding word
 stored-word k v x h = ap (λ (i : ℕ). getD (stored k v) i 0) (stored-place k v x) ∙ go (eqb (k .mask) 0) refl
   where
     go : (b : Bool) → eqb (k .mask) 0 ≡ b → getD (stored k v) (place v x) 0 ≡ getD v (place v x) 0
-    go true e = ap (λ (u : List ℕ). getD u (place v x) 0) (nothing-stored k v e)
+    go true e = ap (λ (u : List ℕ). getD u (place v x) 0) (stored-same k v e)
     go false e =
         stored-elsewhere k v (place v x) (λ q. eqb-false (place v (k .addr)) (place v x) (sym (touches-some k v (place v x) e) ∙ h) (sym q))
 
@@ -60,19 +59,19 @@ separate-sym k l v apart w t = not-passed (touches k v w) (λ p. clash t (apart 
 -- A store made on VRAM that another store to another word has changed.
 stored-over : (k l : Store) (v : List ℕ) → eqb (k .mask) 0 ≡ false → touches l v (place v (k .addr)) ≡ false →
     stored k (stored l v) ≡ set (stored l v) (place v (k .addr)) (merged (k .mask) (word v (k .addr)) (k .value))
-stored-over k l v e h = word-stored k (stored l v) e ∙ rw (stored-place l v (k .addr), stored-word l v (k .addr) h)
+stored-over k l v e h = stored-set k (stored l v) e ∙ rw (stored-place l v (k .addr), stored-word l v (k .addr) h)
 
 pub stored-swap : (k l : Store) (v : List ℕ) → Separate k l v → stored k (stored l v) ≡ stored l (stored k v)
 stored-swap k l v apart = go (eqb (k .mask) 0) (eqb (l .mask) 0) refl refl
   where
     go : (b c : Bool) → eqb (k .mask) 0 ≡ b → eqb (l .mask) 0 ≡ c → stored k (stored l v) ≡ stored l (stored k v)
-    go true c e f = nothing-stored k (stored l v) e ∙ ap (stored l) (sym (nothing-stored k v e))
-    go false true e f = ap (stored k) (nothing-stored l v f) ∙ sym (nothing-stored l (stored k v) f)
+    go true c e f = stored-same k (stored l v) e ∙ ap (stored l) (sym (stored-same k v e))
+    go false true e f = ap (stored k) (stored-same l v f) ∙ sym (stored-same l (stored k v) f)
     go false false e f =
         let h : touches l v (place v (k .addr)) ≡ false = apart (place v (k .addr)) (touches-own k v e) in
         let i : touches k v (place v (l .addr)) ≡ false = separate-sym k l v apart (place v (l .addr)) (touches-own l v f) in
         let d : place v (l .addr) ≢ place v (k .addr) = eqb-false (place v (l .addr)) (place v (k .addr)) (sym (touches-some l v (place v (k .addr)) f) ∙ h) in
         stored-over k l v e h
-        ∙ rw (word-stored l v f)
+        ∙ rw (stored-set l v f)
         (set-comm v (place v (l .addr)) (place v (k .addr)) (merged (l .mask) (word v (l .addr)) (l .value)) (merged (k .mask) (word v (k .addr)) (k .value)) d
-        ∙ sym (stored-over l k v f i ∙ rw (word-stored k v e)))
+        ∙ sym (stored-over l k v f i ∙ rw (stored-set k v e)))

@@ -1,0 +1,90 @@
+-- A call answers the same before and after the pending work, but for the bits that show whether it is done.
+use mathlib.Core.Path.{_≡_, refl, sym, ap, _∙_}
+use mathlib.Core.Bool.{Bool, true, false, cond, true≢false}
+use mathlib.Core.List.{List, [], _∷_, map}
+use Prim.Native.Nat.{ℕ, _/_, _%_}
+use lib.Dec.{eqb}
+use lib.ListN.{getD, List·getD-map}
+use Rattle.xosera.specs.declared.Engine.{Engine}
+use Rattle.xosera.specs.State.{Host, isSet}
+use Rattle.xosera.specs.Words.{withoutBit}
+use Rattle.xosera.specs.Fields.{Flags, flagBits}
+use Rattle.xosera.specs.Adapter.{Side, Adapter, stateOf}
+use Rattle.xosera.specs.HostBytes.{shown, flagsOf, highByte, lowByte}
+use Rattle.xosera.specs.Events.{Call, write, read, tick, frameEnd, line, call}
+use Rattle.xosera.specs.Refusals.{refusal}
+use Rattle.xosera.specs.Calls.{given, answer}
+use Rattle.xosera.proofs.Branches.{cond-same}
+use Rattle.xosera.proofs.Tables.{Each, _and_, getD-each}
+use Rattle.xosera.proofs.RangeLaws.{in-range-status}
+use Rattle.order.specs.Order.{agreed}
+use Rattle.order.specs.Work.{withoutFull, agreedWork}
+use Rattle.order.proofs.Status.{without-alike}
+use Rattle.order.proofs.Finish.{Finishes}
+
+-- The registers by their number, for two values of what they show: alike where each of them is.
+shown-alike : {A : Type 0} (see : ℕ → ℕ → ℕ) (else : ℕ) (l : List (A → ℕ)) (x y : A) → Each (λ r f. see r (f x) ≡ see r (f y)) l → (r : ℕ) →
+    see r (getD (map (λ (f : A → ℕ). f x) l) r else) ≡ see r (getD (map (λ (f : A → ℕ). f y) l) r else)
+shown-alike {A} see else l x y each r =
+    ap (see r) (List·getD-map (λ (f : A → ℕ). f x) l r (λ _. else))
+    ∙ getD-each (λ k f. see k (f x) ≡ see k (f y)) (λ _. else) l each (λ _ _. refl) r
+    ∙ sym (ap (see r) (List·getD-map (λ (f : A → ℕ). f y) l r (λ _. else)))
+
+-- Odd reads show the status at 1 alone, so they agree but for bit 6 there.
+low-alike : (full : Bool) (h : Host) (s t n : ℕ) → withoutBit 6 s ≡ withoutBit 6 t →
+    agreedWork full (read n true) (lowByte h s n) ≡ agreedWork full (read n true) (lowByte h t n)
+unfolding agreedWork withoutFull agreed lowByte
+low-alike full h s t n e =
+    shown-alike (λ r. agreedWork full (read r true)) (shown h n % 256) ((λ _. h .vram .nibbles) ∷ (λ status. status) ∷ (λ _. h .timer .saved) ∷ []) s t
+    (refl and simp cond-same e and refl and tt) n
+
+-- Even reads show whether the blitter is full and busy at 0 alone; it is not full where no blit was queued at first.
+abbrev atRest : Flags
+atRest = record { full = false; busy = false }
+
+flags-alike : (full queued busy : Bool) → (full ≡ false → queued ≡ false) →
+    agreedWork full (read 0 false) (flagBits atRest) ≡ agreedWork full (read 0 false) (flagBits (record { full = queued; busy = busy }))
+unfolding agreedWork withoutFull agreed flagBits withoutBit
+flags-alike true true true alone = refl
+flags-alike true true false alone = refl
+flags-alike true false true alone = refl
+flags-alike true false false alone = refl
+flags-alike false true busy alone = absurd (true≢false (alone refl))
+flags-alike false false true alone = refl
+flags-alike false false false alone = refl
+
+high-alike : (full : Bool) (h : Host) (f : Flags) (n : ℕ) → (full ≡ false → f .full ≡ false) →
+    agreedWork full (read n false) (highByte h atRest n) ≡ agreedWork full (read n false) (highByte h f n)
+unfolding highByte
+high-alike full h f n alone =
+    shown-alike (λ r. agreedWork full (read r false)) (shown h n / 256) (flagBits ∷ (λ _. h .intmask) ∷ (λ _. h .timer .count / 256) ∷ []) atRest f
+    (flags-alike full (f .full) (f .busy) alone and refl and refl and tt) n
+
+module _ {full : Bool} (a r : Adapter) (f : Finishes full a r) where
+  host-alike : r .side .host ≡ a .side .host
+  host-alike = ap (λ (s : Side). s .host) (f .side)
+
+  reference-off : isSet (r .engine .running) ≡ false
+  reference-off = ap (λ (e : Engine). isSet (e .running)) (f .engine)
+
+  pub status-alike : withoutBit 6 (r .status) ≡ withoutBit 6 (a .status)
+  status-alike =
+      without-alike (r .status) (a .status) (in-range-status (stateOf r) (f .fit-ref .state)) (in-range-status (stateOf a) (f .fit .state)) (f .status)
+
+  given-alike : (c : Call) → agreedWork full c (given r (call c)) ≡ agreedWork full c (given a (call c))
+  unfolding given agreedWork agreed
+  given-alike (write n odd b) = refl
+  given-alike (read n true) = rw host-alike (low-alike full (a .side .host) (r .status) (a .status) n status-alike)
+  given-alike (read n false) = rw (host-alike, f .unqueued, reference-off) (high-alike full (a .side .host) (flagsOf (stateOf a)) n (f .alone))
+  given-alike tick = refl
+  given-alike frameEnd = refl
+  given-alike line = refl
+
+  pub value-alike : (c : Call) → refusal r (call c) ≡ refusal a (call c) →
+      agreedWork full c (answer r (call c) .value) ≡ agreedWork full c (answer a (call c) .value)
+  unfolding answer
+  value-alike c e = rw e (go (eqb (refusal a (call c)) 0))
+    where
+      go : (b : Bool) → agreedWork full c (cond b (given r (call c)) 0) ≡ agreedWork full c (cond b (given a (call c)) 0)
+      go true = given-alike c
+      go false = refl
