@@ -1,161 +1,106 @@
-// The bench: memories filled anew, whole words written to registers and read from them, blits started and run.
-use xosera::BlitAnswer;
-use xosera::BlitRegs;
-use xosera::ReadAnswer;
-use xosera::WriteAnswer;
+// The bench: the state and the memories that the calls are lent, what the last write or run answered, and what was told:
+// hexadecimal digits after a 1 that keeps their zeros. Each function gives the bench as its calls leave it.
+use crate::registers::*;
+use xosera::STATE_WORDS;
 
-// The words of the state.
-pub type Words = [u16; 75];
+pub struct Bench {
+    pub state: [u16; STATE_WORDS],
+    pub vram: [u16; 256],
+    pub xr: [u16; 6656],
+    pub answer: u64,
+    pub told: u64,
+}
 
-// The memories: 256 words of VRAM, and all XR words.
-pub type Vram = [u16; 256];
+// The state after reset, every VRAM word FFFF, every XR word 0, and the blitter's masks F.
+pub fn fresh() -> Bench {
+    let mut state = [0; STATE_WORDS];
+    adapter::reset(&mut state);
+    let b = Bench {
+        state,
+        vram: [0xFFFF; 256],
+        xr: [0; 6656],
+        answer: 0,
+        told: 1,
+    };
+    b.xr(SHIFT, MASKS)
+}
 
-pub type Xr = [u16; 6656];
-
-fn fill(memory: &mut [u16], word: u16) {
-    let mut i = 0;
-    while i < memory.len() {
-        memory[i] = word;
-        i += 1;
+impl Bench {
+    // A byte written to a main register; a word; a word written to an XR register.
+    fn write(mut self, reg: u8, odd: bool, byte: u8) -> Bench {
+        let mut vram = self.vram;
+        let mut xr = self.xr;
+        let done = adapter::write_byte(&mut self.state, &mut vram, &mut xr, reg, odd, byte);
+        self.vram = vram;
+        self.xr = xr;
+        self.answer = done.refusal as u64;
+        self
     }
-}
 
-// Every VRAM word FFFF, every XR word 0, and the state after reset.
-pub fn fresh(s: &mut Words, vram: &mut Vram, xr: &mut Xr) {
-    fill(vram, 0xFFFF);
-    fill(xr, 0);
-    adapter::reset(s);
-}
-
-// A VRAM word that a case names.
-pub fn place(vram: &mut Vram, at: usize, word: u16) {
-    if at < vram.len() {
-        vram[at] = word;
+    pub fn set(self, reg: u8, word: u16) -> Bench {
+        let b = self.write(reg, false, (word / 256) as u8);
+        b.write(reg, true, (word % 256) as u8)
     }
-}
 
-fn wide(word: u16) -> u64 {
-    word as u64
-}
-
-// The VRAM word at an address.
-pub fn seen(vram: &Vram, at: usize) -> u64 {
-    if at < vram.len() { wide(vram[at]) } else { 0 }
-}
-
-// The bytes of a word; the word of two bytes.
-fn high(word: u16) -> u8 {
-    (word / 256) as u8
-}
-
-fn low(word: u16) -> u8 {
-    (word % 256) as u8
-}
-
-fn word_of(high: u8, low: u8) -> u64 {
-    high as u64 * 256 + low as u64
-}
-
-// Bits 5 and 6 of a number, each 0 or 1.
-pub fn bit_5(n: u64) -> u64 {
-    n / 32 % 2
-}
-
-pub fn bit_6(n: u64) -> u64 {
-    n / 64 % 2
-}
-
-// A byte written to a main register, and a word as the odd byte's write answers.
-fn write(s: &mut Words, vram: &mut Vram, xr: &mut Xr, reg: u8, odd: bool, byte: u8) -> WriteAnswer {
-    adapter::write_byte(s, vram, xr, reg, odd, byte)
-}
-
-pub fn write_word(s: &mut Words, vram: &mut Vram, xr: &mut Xr, reg: u8, word: u16) -> WriteAnswer {
-    write(s, vram, xr, reg, false, high(word));
-    write(s, vram, xr, reg, true, low(word))
-}
-
-// The same without the answer.
-pub fn set(s: &mut Words, vram: &mut Vram, xr: &mut Xr, reg: u8, word: u16) {
-    write_word(s, vram, xr, reg, word);
-}
-
-// An XR register written through XM_WR_XADDR and XM_XDATA.
-pub fn set_xr(s: &mut Words, vram: &mut Vram, xr: &mut Xr, address: u16, word: u16) {
-    set(s, vram, xr, 4, address);
-    set(s, vram, xr, 5, word);
-}
-
-// A byte read from a main register, and a word from both its bytes.
-pub fn read(s: &mut Words, vram: &Vram, xr: &Xr, reg: u8, odd: bool) -> ReadAnswer {
-    adapter::read_byte(s, vram, xr, reg, odd)
-}
-
-pub fn read_word(s: &mut Words, vram: &Vram, xr: &Xr, reg: u8) -> u64 {
-    let even = read(s, vram, xr, reg, false);
-    let odd = read(s, vram, xr, reg, true);
-    word_of(even.byte, odd.byte)
-}
-
-// A blit of one word with every mask F, all else 0.
-pub fn plain() -> BlitRegs {
-    BlitRegs {
-        ctrl: 0,
-        andc: 0,
-        xor: 0,
-        mods: 0,
-        srcs: 0,
-        modd: 0,
-        dstd: 0,
-        shift: 0xFF00,
-        lines: 0,
-        words: 0,
+    pub fn xr(self, address: u16, word: u16) -> Bench {
+        let b = self.set(WR_XADDR, address);
+        b.set(XDATA, word)
     }
-}
 
-// The blitter's ten registers in order, from 0x40 on: what is drawn, where, and how much.
-fn set_drawing(s: &mut Words, vram: &mut Vram, xr: &mut Xr, b: BlitRegs) {
-    set_xr(s, vram, xr, 0x40, b.ctrl);
-    set(s, vram, xr, 5, b.andc);
-    set(s, vram, xr, 5, b.xor);
-}
+    // Up to n blit steps.
+    pub fn run(mut self, n: u64) -> Bench {
+        let mut vram = self.vram;
+        let xr = self.xr;
+        let done = adapter::blit_run(&mut self.state, &mut vram, &xr, n);
+        self.vram = vram;
+        self.answer = done.count;
+        self
+    }
 
-fn set_places(s: &mut Words, vram: &mut Vram, xr: &mut Xr, b: BlitRegs) {
-    set(s, vram, xr, 5, b.mods);
-    set(s, vram, xr, 5, b.srcs);
-    set(s, vram, xr, 5, b.modd);
-    set(s, vram, xr, 5, b.dstd);
-}
+    // A blit of up to nine words.
+    pub fn blit(self, ctrl: u16, src_s: u16, shift: u16, words: u16) -> Bench {
+        let mut b = self.xr(CTRL, ctrl);
+        b = b.xr(SRC_S, src_s);
+        b = b.xr(SHIFT, shift);
+        b = b.xr(WORDS, words);
+        b.run(9)
+    }
 
-fn set_size(s: &mut Words, vram: &mut Vram, xr: &mut Xr, b: BlitRegs) {
-    set(s, vram, xr, 5, b.shift);
-    set(s, vram, xr, 5, b.lines);
-    set(s, vram, xr, 5, b.words);
-}
+    // n timer ticks.
+    pub fn tick(mut self, n: u64) -> Bench {
+        let mut left = n;
+        while left > 0 {
+            adapter::timer_tick(&mut self.state);
+            left -= 1;
+        }
+        self
+    }
 
-// All ten written; the last starts the blit, or queues it.
-pub fn start(s: &mut Words, vram: &mut Vram, xr: &mut Xr, b: BlitRegs) {
-    set_drawing(s, vram, xr, b);
-    set_places(s, vram, xr, b);
-    set_size(s, vram, xr, b);
-}
+    // The last answer told as a digit; one of more digits shows in those before it.
+    pub fn tell(mut self) -> Bench {
+        self.told = (self.told << 4) ^ self.answer;
+        self
+    }
 
-// Up to n blit steps.
-pub fn run(s: &mut Words, vram: &mut Vram, xr: &Xr, n: u64) -> BlitAnswer {
-    adapter::blit_run(s, vram, xr, n)
-}
+    // A byte read from a main register, and both its bytes; told.
+    pub fn read(mut self, reg: u8, odd: bool) -> Bench {
+        let vram = self.vram;
+        let xr = self.xr;
+        let done = adapter::read_byte(&mut self.state, &vram, &xr, reg, odd);
+        self.told = (self.told << 8) | (done.byte as u64);
+        self
+    }
 
-// A blit started, and up to nine words of it done.
-pub fn blit(s: &mut Words, vram: &mut Vram, xr: &mut Xr, b: BlitRegs) -> BlitAnswer {
-    start(s, vram, xr, b);
-    run(s, vram, xr, 9)
-}
+    pub fn word(self, reg: u8) -> Bench {
+        let b = self.read(reg, false);
+        b.read(reg, true)
+    }
 
-// Some timer ticks, one after the other.
-pub fn tick(s: &mut Words, ticks: u64) {
-    let mut left = ticks;
-    while left > 0 {
-        adapter::timer_tick(s);
-        left -= 1;
+    // A VRAM word; told.
+    pub fn see(mut self, at: u8) -> Bench {
+        let vram = self.vram;
+        let i = at as usize;
+        self.told = (self.told << 16) | (vram[i] as u64);
+        self
     }
 }

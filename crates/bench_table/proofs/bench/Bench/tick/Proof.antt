@@ -1,14 +1,14 @@
 -- As many turns as there are ticks.
 use Prim.Native.Nat.{_≤_}
 use borrow.Author.Needs.{needs}
-use Rattle.bench_table.proofs.bench.tick.Statement.{statement}
-use Rattle.bench_table.proofs.bench.tick.Tie as tie
+use Rattle.bench_table.proofs.bench.Bench.tick.Statement.{statement}
+use Rattle.bench_table.proofs.bench.Bench.tick.Tie as tie
 
 abbrev Inv-loop : tie.InvT-loop
-Inv-loop s₀ ticks left₀ s left = left ≤ ticks
+Inv-loop n self₀ left₀ self left = left ≤ n
 
 abbrev μ-loop : tie.MeasureT-loop
-μ-loop s₀ ticks left₀ s left = left
+μ-loop n self₀ left₀ self left = left
 
 loop-holds : tie.Need-loop-holds Inv-loop μ-loop
 loop-holds c = search needs
