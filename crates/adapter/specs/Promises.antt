@@ -1,8 +1,6 @@
 -- What a public call promises (document 01, "What we hold each call to"): its answer, and the state and both memories after it,
 -- are those of the definitions, for all words lent as a state, every length of either memory and every argument.
 use mathlib.Core.Path.{_≡_}
-use mathlib.Core.List.{List}
-use Prim.Native.Nat.{ℕ}
 use Rattle.xosera.specs.Adapter.{Adapter}
 use Rattle.xosera.specs.Events.{Event, Answer}
 use Rattle.xosera.specs.Calls.{after, answer}
@@ -11,7 +9,3 @@ use Rattle.xosera.specs.Calls.{after, answer}
 pub record Does (a : Adapter) (e : Event) (told : Answer) (b : Adapter) : Type 0 where
   pub answers : told ≡ answer a e
   pub leaves : b ≡ after a e
-
--- A refused call leaves every word of the state as it was.
-abbrev pub Untouched : Answer → List ℕ → List ℕ → Type 0
-Untouched told before after = (told .refusal ≡ 0 → ⊥) → after ≡ before

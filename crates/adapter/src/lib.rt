@@ -13,9 +13,9 @@ ghost use mathlib.Core.List.{List};
 ghost use Prim.Native.Nat.{ℕ};
 ghost use Rattle.xosera.specs.State.{stateAt};
 ghost use Rattle.xosera.specs.Adapter.{adapterAt};
-ghost use Rattle.xosera.specs.Events.{write, read, tick, frameEnd, line, call, step, run, ofWrite, ofRead, ofBlit, ofState, ofLine};
+ghost use Rattle.xosera.specs.Events.{write, read, tick, frameEnd, line, call, step, run, Untouched, ofWrite, ofRead, ofBlit, ofState, ofLine};
 ghost use Rattle.xosera.specs.Ranges.{resetState};
-ghost use Rattle.adapter.specs.Promises.{Does, Untouched};
+ghost use Rattle.adapter.specs.Promises.{Does};
 
 // The state after reset, whatever the words were. It refuses nothing and takes no memory.
 pub fn reset(s: &mut [u16; STATE_WORDS])

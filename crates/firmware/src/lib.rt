@@ -11,9 +11,9 @@ ghost use mathlib.Core.List.{List};
 ghost use Prim.Native.Nat.{ℕ};
 ghost use Rattle.xosera.specs.State.{stateAt};
 ghost use Rattle.xosera.specs.Adapter.{adapterAt};
-ghost use Rattle.xosera.specs.Events.{write, read, tick, frameEnd, line, call, step, run, ofWrite, ofRead, ofBlit, ofState, ofLine};
+ghost use Rattle.xosera.specs.Events.{write, read, tick, frameEnd, line, call, step, run, Untouched, ofWrite, ofRead, ofBlit, ofState, ofLine};
 ghost use Rattle.xosera.specs.Ranges.{resetState};
-ghost use Rattle.adapter.specs.Promises.{Does, Untouched};
+ghost use Rattle.adapter.specs.Promises.{Does};
 
 #[no_mangle]
 pub extern "C" fn xosera_reset(s: &mut [u16; STATE_WORDS])

@@ -11,8 +11,8 @@ use Rattle.xosera.specs.Memories.{isVramLength, isXrLength}
 use Rattle.xosera.specs.Adapter.{adapter}
 use Rattle.xosera.specs.Events.{Call, write, read, tick, frameEnd, line, call, step, run}
 use Rattle.xosera.specs.Ranges.{inRange}
-use Rattle.xosera.specs.Refusals.{badVram, badXr, badState, badRegister, blitterFull, reconfigures, Test, _when_, tests, first, refusal}
-use Rattle.refusals.specs.Tested.{lengthTests, lengthsRefusal, lentRefusal}
+use Rattle.xosera.specs.Refusals.{badVram, badXr, badState, badRegister, blitterFull, reconfigures, Test, _when_, lentTests, tests, first, refusal}
+use Rattle.refusals.specs.Tested.{lengthsRefusal, lentRefusal}
 
 abbrev three : Bool → Bool → Bool → List Test → List Test
 three a b c more = (1 when a) ∷ (2 when b) ∷ (3 when c) ∷ more
@@ -85,45 +85,45 @@ module _ (s : State) (v x : List ℕ) where
     lent-is : lent ≡ lentRefusal (length v) (length x) s
     lent-is = h ∙ ap₂ (λ (k l : ℕ). lentRefusal k l s) (sym p) (sym q)
 
-    first-of : (more : List Test) → (lent ≡ 0 → ⊥) → lent ≡ first (lengthTests (length v) (length x) s more)
-    unfolding lentRefusal
-    first-of more d = lent-is ∙ three-first _ _ _ more (λ z. d (lent-is ∙ z))
+    pub lent-first : (more : List Test) → (lent ≡ 0 → ⊥) → lent ≡ first (lentTests (adapter s v x) more)
+    unfolding lentRefusal badVram badXr badState
+    lent-first more d = lent-is ∙ three-first _ _ _ more (λ z. d (lent-is ∙ z))
 
-    passed-of : (more : List Test) → lent ≡ 0 → first (lengthTests (length v) (length x) s more) ≡ first more
-    unfolding lentRefusal
-    passed-of more z = three-passed _ _ _ more (sym lent-is ∙ z)
+    lent-passed : (more : List Test) → lent ≡ 0 → first (lentTests (adapter s v x) more) ≡ first more
+    unfolding lentRefusal badVram badXr badState
+    lent-passed more z = three-passed _ _ _ more (sym lent-is ∙ z)
 
     pub read-first : (r : ℕ) (odd : Bool) → (lent ≡ 0 → ⊥) → lent ≡ refusal (adapter s v x) (call (read r odd))
-    unfolding refusal tests badVram badXr badState
-    read-first r odd d = first-of (ofRead r) d
+    unfolding refusal tests
+    read-first r odd d = lent-first (ofRead r) d
 
     pub write-first : (r : ℕ) (odd : Bool) (b : ℕ) → (lent ≡ 0 → ⊥) → lent ≡ refusal (adapter s v x) (call (write r odd b))
-    unfolding refusal tests badVram badXr badState
-    write-first r odd b d = first-of (ofWrite r odd b) d
+    unfolding refusal tests
+    write-first r odd b d = lent-first (ofWrite r odd b) d
 
     -- None of the three applies: then the register's number, and in a write the byte.
     module _ (z : lent ≡ 0) (r : ℕ) where
       pub read-over : (odd : Bool) → 16 ≤ r → 4 ≡ refusal (adapter s v x) (call (read r odd))
-      unfolding refusal tests badVram badXr badState badRegister first
-      read-over odd m = sym (passed-of (ofRead r) z ∙ rw (le-ltb r 16 m))
+      unfolding refusal tests badRegister first
+      read-over odd m = sym (lent-passed (ofRead r) z ∙ rw (le-ltb r 16 m))
 
       pub read-done : (odd : Bool) → r < 16 → 0 ≡ refusal (adapter s v x) (call (read r odd))
-      unfolding refusal tests badVram badXr badState badRegister first
-      read-done odd m = sym (passed-of (ofRead r) z ∙ rw (lt-ltb r 16 m))
+      unfolding refusal tests badRegister first
+      read-done odd m = sym (lent-passed (ofRead r) z ∙ rw (lt-ltb r 16 m))
 
       pub write-over : (odd : Bool) (b : ℕ) → 16 ≤ r → 4 ≡ refusal (adapter s v x) (call (write r odd b))
-      unfolding refusal tests badVram badXr badState badRegister first
-      write-over odd b m = sym (passed-of (ofWrite r odd b) z ∙ rw (le-ltb r 16 m))
+      unfolding refusal tests badRegister first
+      write-over odd b m = sym (lent-passed (ofWrite r odd b) z ∙ rw (le-ltb r 16 m))
 
       pub write-even : (odd : Bool) (b : ℕ) → r < 16 → odd ≡ false → 0 ≡ refusal (adapter s v x) (call (write r odd b))
-      unfolding refusal tests badVram badXr badState badRegister blitterFull reconfigures first
-      write-even odd b m e = sym (passed-of (ofWrite r odd b) z ∙ rw (lt-ltb r 16 m, e))
+      unfolding refusal tests badRegister blitterFull reconfigures first
+      write-even odd b m e = sym (lent-passed (ofWrite r odd b) z ∙ rw (lt-ltb r 16 m, e))
 
       pub write-odd : (odd : Bool) (b : ℕ) → r < 16 → odd ≡ true
           → first ((5 when blitterFull (adapter s v x) r true) ∷ (6 when reconfigures (adapter s v x) r true b) ∷ []) ≡
           refusal (adapter s v x) (call (write r odd b))
-      unfolding refusal tests badVram badXr badState badRegister first
-      write-odd odd b m e = sym (passed-of (ofWrite r odd b) z ∙ rw (lt-ltb r 16 m, e))
+      unfolding refusal tests badRegister first
+      write-odd odd b m e = sym (lent-passed (ofWrite r odd b) z ∙ rw (lt-ltb r 16 m, e))
 
 -- The state is in range where none of the three applies.
 pub lent-in-range : (n m : ℕ) (s : State) → lentRefusal n m s ≡ 0 → inRange s ≡ true

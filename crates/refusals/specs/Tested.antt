@@ -1,19 +1,16 @@
--- The tests of both memories and the state, which accesses, blit steps and runs make first.
+-- The tests of both memories and the state, which accesses, blit steps, runs, saves and loads make first.
 use mathlib.Core.Bool.{not}
-use mathlib.Core.List.{List, [], _∷_}
+use mathlib.Core.List.{[], _∷_}
 use Prim.Native.Nat.{ℕ}
 use Rattle.xosera.specs.State.{State}
 use Rattle.xosera.specs.Memories.{isVramLength, isXrLength}
 use Rattle.xosera.specs.Ranges.{inRange}
-use Rattle.xosera.specs.Refusals.{Test, _when_, first}
+use Rattle.xosera.specs.Refusals.{_when_, first}
 
 -- Refusals 1 and 2 by the lengths of the memories.
 unfoldable pub lengthsRefusal : ℕ → ℕ → ℕ
 lengthsRefusal vram xr = first ((1 when not (isVramLength vram)) ∷ (2 when not (isXrLength xr)) ∷ [])
 
--- Refusals 1 to 3 by the lengths of the memories and the state, then the tests that follow.
-abbrev pub lengthTests : ℕ → ℕ → State → List Test → List Test
-lengthTests vram xr s more = (1 when not (isVramLength vram)) ∷ (2 when not (isXrLength xr)) ∷ (3 when not (inRange s)) ∷ more
-
+-- Refusals 1 to 3 by the lengths of the memories and the state.
 unfoldable pub lentRefusal : ℕ → ℕ → State → ℕ
-lentRefusal vram xr s = first (lengthTests vram xr s [])
+lentRefusal vram xr s = first ((1 when not (isVramLength vram)) ∷ (2 when not (isXrLength xr)) ∷ (3 when not (inRange s)) ∷ [])

@@ -1,4 +1,4 @@
-// The refusals of every call: the first that applies, in their order. Where a function takes `registers`, its caller has
+// The refusals 1 to 6 of every call: the first that applies, in their order. Where a function takes `registers`, its caller has
 // tested the registers already, so that the function is short enough for the compiler to put it into every call.
 use xosera::QUEUED;
 use xosera::STATE_WORDS;
@@ -41,7 +41,7 @@ fn lengths_refusal(vram: usize, xr: usize) -> u8
     0
 }
 
-// Refusals 1 to 3, those of a blit step and a run and the first of a byte read.
+// Refusals 1 to 3, those of a blit step and a run and the first of a byte read, a save and a load.
 pub fn lent_refusal(s: &[u16; STATE_WORDS], registers: bool, vram: usize, xr: usize) -> u8
     requires { ⌜ registers ≡ registersInRange (stateAt (now s)) ⌝ }
     ensures { λ r. ⌜ r ≡ lentRefusal vram xr (stateAt (now (s .entry))) ⌝ }

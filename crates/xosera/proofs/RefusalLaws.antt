@@ -1,5 +1,5 @@
 -- None of the tests applies to an event that is not refused: its state is in range, and its memories are as long as they should be.
-use mathlib.Core.Path.{_≡_, refl, ap, subst}
+use mathlib.Core.Path.{_≡_, refl, sym, ap, _∙_}
 use mathlib.Core.Bool.{Bool, true, false, not, _&&_}
 use mathlib.Core.List.{List, [], _∷_}
 use Prim.Native.Nat.{ℕ, zero, suc, _<_}
@@ -66,12 +66,23 @@ module _ (a : Adapter) (fit : Fit a) where
   unfolding badState
   fit-state = ap not (fit .state)
 
+  -- Then those that follow decide.
+  pub fit-passes : (more : List Test) → first (lentTests a more) ≡ first more
+  unfolding first
+  fit-passes more = rw (fit-vram, fit-xr, fit-state)
+
 -- What tests both memories and the state and is not refused is fit to go on.
-pub lent-fit : (a : Adapter) (e : Event) {more : List Test} → tests a e ≡ lentTests a more → refusal a e ≡ 0 → Fit a
+pub none-fit : (a : Adapter) (more : List Test) → first (lentTests a more) ≡ 0 → Fit a
 unfolding badVram badXr badState isXrLength
-lent-fit a e {more} t h =
-    let none : (i : ℕ) → applied (lentTests a more) i ≡ false = λ i. subst (λ (l : List Test). applied l i ≡ false) t (accepted-none a e i h) in
-    record { vram = not-false _ (none 0); xr = eqb-true (length (a .side .xr)) 6656 (not-false _ (none 1)); state = not-false _ (none 2) }
+none-fit a more h =
+    let one = passed _ _ (omega arith) h in
+    let two = passed _ _ (omega arith) (one .1) in
+    let three = passed _ _ (omega arith) (two .1) in
+    record { vram = not-false _ (one .0); xr = eqb-true (length (a .side .xr)) 6656 (not-false _ (two .0)); state = not-false _ (three .0) }
+
+pub lent-fit : (a : Adapter) (e : Event) {more : List Test} → tests a e ≡ lentTests a more → refusal a e ≡ 0 → Fit a
+unfolding refusal
+lent-fit a e {more} t h = none-fit a more (sym (ap first t) ∙ h)
 
 -- Refusal 3 can apply to every event.
 pub accepted-in-range : (a : Adapter) (e : Event) → refusal a e ≡ 0 → inRange (stateOf a) ≡ true

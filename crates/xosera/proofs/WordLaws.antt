@@ -1,7 +1,7 @@
 -- The words of a state: what they stand for after stores, and that no two lists of words stand for the same state.
 use mathlib.Core.Path.{_≡_, refl, sym, ap, ap₂, _∙_}
 use mathlib.Core.Bool.{Bool, true, cond, _&&_, and-eq-true-iff}
-use mathlib.Core.List.{List, [], _∷_, _++_}
+use mathlib.Core.List.{List, [], _∷_}
 use Prim.Native.Nat.{ℕ, zero, suc, _+_, _<_}
 use native.Mathlib.Omega.{arith}
 use native.Mathlib.Decide.{ℕ-discrete}
@@ -10,8 +10,7 @@ use borrow.Author.Tests.{eq-eqb, ne-eqb, ltb-true}
 use lib.Dec.{eqb, ltb}
 use lib.ListN.{length, set, length-set}
 use lib.Seq.{getD-set-same, getD-set-other}
-use Rattle.xosera.specs.declared.BlitRegs.{BlitRegs}
-use Rattle.xosera.specs.State.{State, stateWords, wordsFrom, stateBy, wordAt, stateAt}
+use Rattle.xosera.specs.State.{State, stateWords, wordsFrom, stateBy, wordAt, stateAt, regWords, laidOut}
 use Rattle.xosera.specs.Adapter.{adapter, adapterAt}
 
 -- Words read with another one at a place.
@@ -73,22 +72,6 @@ module _ (ws : List ℕ) (size : length ws ≡ stateWords) (ps : List Stored) (p
   pub stored-adapter : (v x : List ℕ) → adapterAt (setAll ws ps) v x ≡ adapter (stateBy (putAll ps (wordAt ws))) v x
   stored-adapter v x = ap (λ (s : State). adapter s v x) stored-state
 
--- The words of a state, in their order: its fields one after another.
-regWords : BlitRegs → List ℕ
-regWords r =
-    r .ctrl ∷ r .andc ∷ r .xor ∷ r .mods ∷ r .srcs ∷ r .modd ∷ r .dstd ∷ r .shift ∷ r .lines ∷ r .words ∷ []
-
-laidOut : State → List ℕ
-laidOut s =
-    let h = s .host in
-    let v = s .video in
-    let e = s .engine in
-    h .latches ++ (h .xr .rdxaddr .0 ∷ h .xr .wrxaddr .0 ∷ h .xr .buffer ∷ [])
-    ++ (h .vram .rdincr ∷ h .vram .rdaddr .0 ∷ h .vram .wrincr ∷ h .vram .wraddr .0 ∷ h .vram .buffer ∷ h .vram .nibbles ∷ [])
-    ++ (h .timer .count ∷ h .timer .countdown ∷ h .timer .interval ∷ h .timer .saved ∷ h .intmask ∷ s .queued ∷ s .status ∷ [])
-    ++ (e .running ∷ e .line ∷ e .word ∷ e .kept ∷ []) ++ regWords (e .regs)
-    ++ (v .vidctrl ∷ v .coppctrl ∷ v .audctrl ∷ v .vidleft ∷ v .vidright ∷ []) ++ v .pa ++ v .pb ++ regWords (s .blit)
-
 -- A list is the list of its words.
 spelled : (n : ℕ) (at : ℕ) (word : ℕ → ℕ) (ws : List ℕ) → length ws ≡ n → ((k : ℕ) → word (at + k) ≡ wordAt ws k) → wordsFrom n at word ≡ ws
 spelled zero at word [] h e = refl
@@ -97,7 +80,8 @@ spelled (suc n) at word [] h e = absurd (omega arith)
 spelled (suc n) at word (w ∷ ws) h e =
     ap₂ _∷_ (rw add-zero at (e 0)) (spelled n (suc at) word ws (omega arith) (λ k. ap word (omega arith) ∙ e (suc k)))
 
-words-back : (ws : List ℕ) → length ws ≡ stateWords → laidOut (stateAt ws) ≡ ws
+-- The words that a state is laid out in are those that it is read from.
+pub words-back : (ws : List ℕ) → length ws ≡ stateWords → laidOut (stateAt ws) ≡ ws
 unfolding laidOut regWords stateAt
 words-back ws h = spelled stateWords 0 (wordAt ws) ws h (λ k. ap (wordAt ws) (omega arith))
 

@@ -1,5 +1,8 @@
--- The calls of the base but reset (document 01, first paragraph, and "The order of things").
+-- The calls of the base but reset (document 01, first paragraph, and "The order of things"). Save and load (document 02,
+-- request 1) are no events.
+use mathlib.Core.Path.{_≡_}
 use mathlib.Core.Bool.{Bool, cond}
+use mathlib.Core.List.{List}
 use Prim.Native.Nat.{ℕ}
 use Rattle.xosera.specs.declared.WriteAnswer.{WriteAnswer}
 use Rattle.xosera.specs.declared.ReadAnswer.{ReadAnswer}
@@ -19,11 +22,15 @@ pub data Event : Type 0 where
   step : Event
   run : ℕ → Event
 
--- What an event answers: its refusal, 0 for done, and a number: the byte of a read, the count of a step or run,
--- 1 for a line that is up.
+-- What a call answers: its refusal, 0 for done, and a number: the byte of a read, the count of a step or run, 1 for a line that
+-- is up, the length of a saved file.
 pub record Answer : Type 0 where
   pub refusal : ℕ
   pub value : ℕ
+
+-- A refused call leaves every word of the state as it was.
+abbrev pub Untouched : Answer → List ℕ → List ℕ → Type 0
+Untouched told before after = (told .refusal ≡ 0 → ⊥) → after ≡ before
 
 -- The answer that each returned struct stands for.
 abbrev pub ofWrite : WriteAnswer → Answer

@@ -1,6 +1,6 @@
 -- The adapter's state by name, and the 16-bit words that stand for it. A flag is 1 or 0. The ranges of the fields are in Ranges.
 use mathlib.Core.Bool.{Bool}
-use mathlib.Core.List.{List, [], _∷_}
+use mathlib.Core.List.{List, [], _∷_, _++_}
 use Prim.Native.Nat.{ℕ, zero, suc, _+_}
 use lib.Dec.{eqb}
 use lib.ListN.{getD}
@@ -126,3 +126,20 @@ wordAt ws k = getD ws k 0
 -- The state that words stand for.
 unfoldable pub stateAt : List ℕ → State
 stateAt ws = stateBy (wordAt ws)
+
+-- The words of ten registers.
+unfoldable pub regWords : BlitRegs → List ℕ
+regWords r =
+    r .ctrl ∷ r .andc ∷ r .xor ∷ r .mods ∷ r .srcs ∷ r .modd ∷ r .dstd ∷ r .shift ∷ r .lines ∷ r .words ∷ []
+
+-- The words of a state, in their order: its fields one after another. A saved file has them so (document 02, request 1).
+unfoldable pub laidOut : State → List ℕ
+laidOut s =
+    let h = s .host in
+    let v = s .video in
+    let e = s .engine in
+    h .latches ++ (h .xr .rdxaddr .0 ∷ h .xr .wrxaddr .0 ∷ h .xr .buffer ∷ [])
+    ++ (h .vram .rdincr ∷ h .vram .rdaddr .0 ∷ h .vram .wrincr ∷ h .vram .wraddr .0 ∷ h .vram .buffer ∷ h .vram .nibbles ∷ [])
+    ++ (h .timer .count ∷ h .timer .countdown ∷ h .timer .interval ∷ h .timer .saved ∷ h .intmask ∷ s .queued ∷ s .status ∷ [])
+    ++ (e .running ∷ e .line ∷ e .word ∷ e .kept ∷ []) ++ regWords (e .regs)
+    ++ (v .vidctrl ∷ v .coppctrl ∷ v .audctrl ∷ v .vidleft ∷ v .vidright ∷ []) ++ v .pa ++ v .pb ++ regWords (s .blit)
