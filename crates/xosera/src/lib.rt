@@ -68,6 +68,19 @@ pub struct LineAnswer {
     pub up: bool,
 }
 
+// What a save answers: the length of the file in bytes.
+#[repr(C)]
+pub struct SaveAnswer {
+    pub refusal: u8,
+    pub length: u64,
+}
+
+// What a load answers.
+#[repr(C)]
+pub struct LoadAnswer {
+    pub refusal: u8,
+}
+
 // How many words a state has, and which of them stands for which field (specs/State.antt).
 pub const STATE_WORDS: usize = 75;
 

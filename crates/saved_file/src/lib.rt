@@ -1,0 +1,1 @@
+// A saved adapter: definitions and their laws, with no code of its own.
