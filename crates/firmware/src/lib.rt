@@ -2,8 +2,10 @@
 // pointer and length.
 use xosera::BlitAnswer;
 use xosera::LineAnswer;
+use xosera::LoadAnswer;
 use xosera::ReadAnswer;
 use xosera::STATE_WORDS;
+use xosera::SaveAnswer;
 use xosera::StateAnswer;
 use xosera::WriteAnswer;
 ghost use mathlib.Core.Path.{_≡_};
@@ -14,6 +16,7 @@ ghost use Rattle.xosera.specs.Adapter.{adapterAt};
 ghost use Rattle.xosera.specs.Events.{write, read, tick, frameEnd, line, call, step, run, Untouched, ofWrite, ofRead, ofBlit, ofState, ofLine};
 ghost use Rattle.xosera.specs.Ranges.{resetState};
 ghost use Rattle.adapter.specs.Promises.{Does};
+ghost use Rattle.saved_file.specs.SaveLoad.{ofSave, ofLoad, Saves, Loads};
 
 #[no_mangle]
 pub extern "C" fn xosera_reset(s: &mut [u16; STATE_WORDS])
@@ -109,4 +112,34 @@ pub extern "C" fn xosera_interrupt_line(s: &[u16; STATE_WORDS]) -> LineAnswer
     ensures { λ r. ⌜ ((v x : List ℕ) → Does (adapterAt (now (s .entry)) v x) (call line) (ofLine r) (adapterAt (now (s .entry)) v x)) ⌝ }
 {
     adapter::interrupt_line(s)
+}
+
+#[no_mangle]
+pub extern "C" fn xosera_save(
+    s: &[u16; STATE_WORDS],
+    vram: &[u16],
+    xr: &[u16],
+    room: &mut [u8],
+) -> SaveAnswer
+    ensures { λ r. ⌜
+        Saves (adapterAt (now (s .entry)) (now (vram .entry)) (now (xr .entry))) (now (room .entry)) (ofSave r) (now (room .exit))
+        ⌝ }
+{
+    saving::save(s, vram, xr, room)
+}
+
+#[no_mangle]
+pub extern "C" fn xosera_load(
+    s: &mut [u16; STATE_WORDS],
+    vram: &mut [u16],
+    xr: &mut [u16],
+    file: &[u8],
+) -> LoadAnswer
+    ensures done { λ r. ⌜
+        Loads (adapterAt (now (s .entry)) (now (vram .entry)) (now (xr .entry))) (now (file .entry)) (ofLoad r)
+        (adapterAt (now (s .exit)) (now (vram .exit)) (now (xr .exit)))
+        ⌝ }
+    ensures refused { λ r. ⌜ Untouched (ofLoad r) (now (s .entry)) (now (s .exit)) ⌝ }
+{
+    saving::load(s, vram, xr, file)
 }

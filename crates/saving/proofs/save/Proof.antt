@@ -1,0 +1,79 @@
+-- Refused by 1 to 3 or by the room, or the file is put there.
+use mathlib.Core.List.{List}
+use Prim.Native.Nat.{ℕ}
+use native.Mathlib.Omega.{arith}
+use borrow.Author.Needs.{needs}
+use Rattle.xosera.specs.Adapter.{Adapter, adapterAt}
+use Rattle.vram.proofs.Lengths.{length-bounds}
+use Rattle.saved_file.proofs.SavedLaws.{saved-length}
+use Rattle.saving.proofs.Promised.{save-refused, save-done, fit, save-lent, save-short, save-fits}
+use Rattle.saving.proofs.save.Statement.{statement}
+use Rattle.saving.proofs.save.Tie as tie
+
+registers-in-range-requires : tie.Need-registers-in-range-requires
+registers-in-range-requires c κs = search needs
+
+lent-refusal-requires : tie.Need-lent-refusal-requires
+lent-refusal-requires c κs = search needs
+
+-- The adapter and the room at the call.
+module _ (c : tie.After-lent-refusal) where
+  abbrev began : tie.Start
+  began = c .before .before .before .before .before
+
+  abbrev words : List ℕ
+  words = began .args .s .now
+
+  abbrev vram : List ℕ
+  vram = began .args .vram .now
+
+  abbrev xr : List ℕ
+  xr = began .args .xr .now
+
+  abbrev room : List ℕ
+  room = began .args .room .now
+
+  abbrev here : Adapter
+  here = adapterAt words vram xr
+
+returns : tie.Need-returns
+returns c =
+    let t = c .before in
+    save-refused (here t) (room t) _
+    (save-lent (words t) (vram t) (xr t) (t .lent-refusal .ensures) (room t) (c .if1 .taken)) (c .if1 .taken)
+
+mul-length : tie.Need-mul-length
+mul-length c = search needs
+
+add-length : tie.Need-add-length
+add-length c = search needs
+
+returns-2 : tie.Need-returns-2
+returns-2 c =
+    let t = c .before .before in
+    save-refused (here t) (room t) 7
+    (save-short (words t) (vram t) (xr t) (t .lent-refusal .ensures) (c .before .if1 .left) (room t) (c .if2 .taken)) (λ e. absurd (omega arith))
+
+put-file-requires : tie.Need-put-file-requires
+put-file-requires c κs =
+    let else = c .before .before in
+    let t = else .before .before in
+    let f = fit (words t) (vram t) (xr t) (t .lent-refusal .ensures) (else .before .if1 .left) in
+    (search needs, (f .xr, (length-bounds _ (f .vram) .1, else .if2 .left)))
+
+same-length : tie.Need-same-length
+same-length c = search needs
+
+returns-3 : tie.Need-returns-3
+returns-3 c =
+    let else = c .before .before .before .before .before in
+    let t = else .before .before in
+    let f = fit (words t) (vram t) (xr t) (t .lent-refusal .ensures) (else .before .if1 .left) in
+    save-done (here t) (room t) _ _
+    (save-fits (words t) (vram t) (xr t) (t .lent-refusal .ensures) (else .before .if1 .left) (room t) (else .if2 .left))
+    (saved-length (words t) (vram t) (xr t) (f .xr)) (c .before .before .put-file .ensures)
+
+pub save-spec : {M : Type 1} → statement M
+save-spec =
+    tie.close
+    (tie.spec registers-in-range-requires lent-refusal-requires returns mul-length add-length returns-2 put-file-requires same-length returns-3)
