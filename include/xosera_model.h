@@ -2,8 +2,9 @@
  * xosera_model.h - link firmware tests to the model of the Xosera video adapter.
  *
  * xosera/registers.h  Constants: main registers, XR registers, XR memories, bits.
- * xosera/calls.h      The library: state, answers and the eight calls of libfirmware.a.
+ * xosera/calls.h      The library: state, answers and the ten calls of libfirmware.a.
  * xosera/handle.h     The handle: a state with its two memories; refusals are kept and reported.
+ * xosera/files.h      Files: an adapter is saved under a name and loaded again.
  * xosera/board.h      The board's spelling: xm_setw(WR_ADDR, a), vram_setw_next(w), ...
  *
  * C11 and C++17, gcc or clang, x86-64. Nothing but the library has to be linked.
@@ -15,6 +16,7 @@
 #include "xosera/registers.h"
 #include "xosera/calls.h"
 #include "xosera/handle.h"
+#include "xosera/files.h"
 #include "xosera/board.h"
 
 #endif /* XOSERA_MODEL_H */

@@ -1,5 +1,5 @@
 /*
- * State and calls: the eight calls of libfirmware.a, the state that is lent to them, what they
+ * State and calls: the ten calls of libfirmware.a, the state that is lent to them, what they
  * answer and the numbers of their refusals. docs/CALLS.md says what each call does.
  */
 #ifndef XOSERA_MODEL_CALLS_H
@@ -12,16 +12,20 @@
 #include "registers.h"
 
 /* What a call can say. The lowest number that applies is given. A refused call leaves every word of
- * the state and of both memories as it was; a refused read gives byte 0, a refused step or run
- * count 0, a refused line question no. */
+ * the state and of both memories as it was, a refused save every byte of the room; a refused read
+ * gives byte 0, a refused step or run count 0, a refused line question no, a refused save length 0.
+ */
 typedef enum xosera_refusal {
     XOSERA_DONE = 0,
-    XOSERA_VRAM_LENGTH = 1,  /* VRAM is not a power of two of words from 256 to 65,536 */
-    XOSERA_XR_LENGTH = 2,    /* XR memory is not 6,656 words */
-    XOSERA_STATE_RANGE = 3,  /* a word of the state is out of its range */
-    XOSERA_NO_REGISTER = 4,  /* register number over 15 */
-    XOSERA_BLITTER_FULL = 5, /* blitter register written while a blit is queued */
-    XOSERA_RECONFIGURE = 6   /* XM_INT_CTRL written with INT_CTRL_RECONFIG_F set */
+    XOSERA_VRAM_LENGTH = 1,      /* VRAM is not a power of two of words from 256 to 65,536 */
+    XOSERA_XR_LENGTH = 2,        /* XR memory is not 6,656 words */
+    XOSERA_STATE_RANGE = 3,      /* a word of the state is out of its range */
+    XOSERA_NO_REGISTER = 4,      /* register number over 15 */
+    XOSERA_BLITTER_FULL = 5,     /* blitter register written while a blit is queued */
+    XOSERA_RECONFIGURE = 6,      /* XM_INT_CTRL written with INT_CTRL_RECONFIG_F set */
+    XOSERA_ROOM_SHORT = 7,       /* room too short for the file */
+    XOSERA_NO_SAVED_ADAPTER = 8, /* file is not a saved adapter */
+    XOSERA_SAVED_VRAM_LENGTH = 9 /* VRAM of the saved adapter is not as long as the memory lent */
 } xosera_refusal;
 
 /* A VRAM address and an XR address never stand for one another, hence two types. */
@@ -102,9 +106,9 @@ typedef struct xosera_engine {
 } xosera_engine;
 
 /* The whole state of the adapter but for its memories: 75 words, flags and bytes too, and no
- * padding. It may be copied, kept, compared with memcmp and read from a file: equal states are
- * equal memory. Words that no adapter can have, from a bad file or in a handle that was never
- * attached, are refused with 3, never misread. */
+ * padding. It may be copied, kept and compared with memcmp: equal states are equal memory. Words
+ * that no adapter can have, set by a test or in a handle that was never attached, are refused with
+ * 3, never misread. */
 #define XOSERA_STATE_WORDS 75
 typedef struct xosera_state {
     xosera_host host;
@@ -114,6 +118,14 @@ typedef struct xosera_state {
     xosera_video video;
     xosera_blit_regs blit; /* as the host wrote them; a queued blit waits here */
 } xosera_state;
+
+/* A saved adapter as a file of bytes: contents, state, XR memory, VRAM; docs/SAVED.md has the
+ * layout. Its length in bytes by the words of its VRAM, and the longest. */
+#define XOSERA_FILE_STATE_AT          28
+#define XOSERA_FILE_XR_AT             178
+#define XOSERA_FILE_VRAM_AT           13490
+#define XOSERA_FILE_BYTES(vram_words) (XOSERA_FILE_VRAM_AT + 2 * (size_t)(vram_words))
+#define XOSERA_FILE_MAX               144562
 
 /* Answers: `refusal` is one of xosera_refusal. */
 typedef struct xosera_write_answer {
@@ -138,6 +150,15 @@ typedef struct xosera_line_answer {
     uint8_t refusal;
     bool up;
 } xosera_line_answer;
+
+typedef struct xosera_save_answer {
+    uint8_t refusal;
+    uint64_t length; /* of the file, in bytes */
+} xosera_save_answer;
+
+typedef struct xosera_load_answer {
+    uint8_t refusal;
+} xosera_load_answer;
 
 /* The library's layout; tests/c/test_layout.c holds it against the library. */
 #ifdef __cplusplus
@@ -221,13 +242,25 @@ XOSERA_AT(xosera_state_answer, refusal, 0);
 XOSERA_SIZE(xosera_line_answer, 2);
 XOSERA_AT(xosera_line_answer, refusal, 0);
 XOSERA_AT(xosera_line_answer, up, 1);
+XOSERA_SIZE(xosera_save_answer, 16);
+XOSERA_AT(xosera_save_answer, refusal, 0);
+XOSERA_AT(xosera_save_answer, length, 8);
+XOSERA_SIZE(xosera_load_answer, 1);
+XOSERA_AT(xosera_load_answer, refusal, 0);
+
+XOSERA_ASSERT(XOSERA_FILE_XR_AT == XOSERA_FILE_STATE_AT + 2 * XOSERA_STATE_WORDS,
+              "XR memory follows the state in a file");
+XOSERA_ASSERT(XOSERA_FILE_VRAM_AT == XOSERA_FILE_XR_AT + 2 * XOSERA_XR_WORDS,
+              "VRAM follows XR memory in a file");
+XOSERA_ASSERT(XOSERA_FILE_MAX == XOSERA_FILE_BYTES(XOSERA_VRAM_MAX), "the longest file");
 
 #ifdef __cplusplus
 extern "C" {
 #endif
 
-/* State and memories are lent for the one call, and changed in place. State, VRAM and XR memory
- * must not overlap one another. Lengths are in words. */
+/* State and memories are lent for the one call, and changed in place. State, VRAM, XR memory and
+ * the bytes of a file must not overlap one another. Lengths are in words, those of a room or a file
+ * in bytes. */
 
 /* Reset fills all words of the state: 0 but the nibble mask, 15, and XR_VID_RIGHT, 640. */
 void xosera_reset(xosera_state *s);
@@ -250,6 +283,14 @@ xosera_blit_answer xosera_blit_run(xosera_state *s, uint16_t *vram, size_t vram_
 xosera_state_answer xosera_timer_tick(xosera_state *s);
 xosera_state_answer xosera_frame_end(xosera_state *s);
 xosera_line_answer xosera_interrupt_line(const xosera_state *s);
+
+/* Save the adapter to the first bytes of a room, which may be longer than the file; the bytes
+ * behind the file stay as they were. Load the adapter that a file holds: any bytes that no adapter
+ * saves are refused with 8. */
+xosera_save_answer xosera_save(const xosera_state *s, const uint16_t *vram, size_t vram_len,
+                               const uint16_t *xr, size_t xr_len, uint8_t *room, size_t room_len);
+xosera_load_answer xosera_load(xosera_state *s, uint16_t *vram, size_t vram_len, uint16_t *xr,
+                               size_t xr_len, const uint8_t *file, size_t file_len);
 
 #ifdef __cplusplus
 }

@@ -21,7 +21,9 @@ typedef enum xosera_call {
     XOSERA_CALL_RUN,
     XOSERA_CALL_TICK,
     XOSERA_CALL_FRAME_END,
-    XOSERA_CALL_LINE
+    XOSERA_CALL_LINE,
+    XOSERA_CALL_SAVE,
+    XOSERA_CALL_LOAD
 } xosera_call;
 
 /* A refused call: why, which, its arguments where it has them, and the line of source that last
@@ -98,6 +100,10 @@ static inline const char *xosera_refusal_text(unsigned refusal)
     case XOSERA_NO_REGISTER: return "register number over 15";
     case XOSERA_BLITTER_FULL: return "blitter register written while the blitter is full";
     case XOSERA_RECONFIGURE: return "XM_INT_CTRL written with bit 15 set";
+    case XOSERA_ROOM_SHORT: return "room too short for the file";
+    case XOSERA_NO_SAVED_ADAPTER: return "file is not a saved adapter";
+    case XOSERA_SAVED_VRAM_LENGTH:
+        return "VRAM of the saved adapter is not as long as the memory lent";
     default: return "unknown refusal";
     }
 }
@@ -105,8 +111,9 @@ static inline const char *xosera_refusal_text(unsigned refusal)
 /* A hook that says what was refused and where, and ends the program. */
 static inline void xosera_abort_on_refusal(xosera *x, const xosera_refused *what)
 {
-    static const char *const calls[] = {"write",      "read",      "blit step",    "blit run",
-                                        "timer tick", "frame end", "line question"};
+    static const char *const calls[] = {"write",         "read",       "blit step",
+                                        "blit run",      "timer tick", "frame end",
+                                        "line question", "save",       "load"};
     (void)x;
     if (what->file != NULL) {
         fprintf(stderr, "%s:%d: ", what->file, what->line);

@@ -33,5 +33,20 @@ int cpp_user()
     if (vram[0x10] != 0x7777 || vram[0x13] != 0x7777 || vram[0x14] != 0 || own.refusals != 0) {
         return 4;
     }
-    return before->vram[0x20] == 0xC0DE ? 0 : 5;
+
+    // Saved and loaded again.
+    static uint8_t room[XOSERA_FILE_BYTES(256)];
+    const xosera_save_answer saved =
+        xosera_save(&own.state, own.vram, 256, own.xr, own.xr_len, room, sizeof room);
+    vram[0x10] = 0;
+    const xosera_load_answer loaded =
+        xosera_load(&own.state, own.vram, 256, own.xr, own.xr_len, room, saved.length);
+    if (saved.length != sizeof room || loaded.refusal != XOSERA_DONE || vram[0x10] != 0x7777) {
+        return 5;
+    }
+    if (xosera_load_file(&own, "/dev/null").refusal != XOSERA_NO_SAVED_ADAPTER ||
+        own.refusals != 1) {
+        return 6;
+    }
+    return before->vram[0x20] == 0xC0DE ? 0 : 7;
 }

@@ -12,6 +12,8 @@ int main(void)
     failed += queue_group(&tests);
     failed += order_group(&tests);
     failed += layout_group(&tests);
+    failed += saved_group(&tests);
+    failed += files_group(&tests);
     failed += api_group(&tests);
     printf("C tests: %d passed, %d failed\n", tests - failed, failed);
     return failed == 0 ? 0 : 1;

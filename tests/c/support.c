@@ -7,6 +7,18 @@ static void fail_test(xosera *x, const xosera_refused *what)
              what->line, (int)what->call, (int)what->reg, xosera_refusal_text(what->why));
 }
 
+void add_refusal(xosera *x, const xosera_refused *what)
+{
+    *(int *)x->user += (int)what->why;
+}
+
+void leap_on_refusal(xosera *x, const xosera_refused *what)
+{
+    longjmp(*(jmp_buf *)x->user, (int)what->why);
+}
+
+const size_t vram_lengths[VRAM_LENGTHS] = {256, 512, 1024, 2048, 4096, 8192, 16384, 32768, 65536};
+
 void fill(uint16_t *words, size_t n, uint16_t seed)
 {
     for (size_t i = 0; i < n; i++) {
@@ -40,12 +52,121 @@ xosera_state reset_state(void)
     return s;
 }
 
+/* Words `from` to `to` of the state, all different. */
+static void fill_words(xosera_state *s, int from, int to)
+{
+    uint16_t words[XOSERA_STATE_WORDS];
+    memcpy(words, s, sizeof words);
+    fill(words + from, (size_t)(to - from + 1), (uint16_t)(from + 1));
+    memcpy(s, words, sizeof words);
+}
+
+xosera_state idle_state(void)
+{
+    xosera_state s = reset_state();
+    for (int reg = 0; reg < XOSERA_MAIN_REGS; reg++) {
+        s.host.latch[reg] = (uint16_t)(0x71 + reg);
+    }
+    fill_words(&s, 16, 23); /* both ports */
+    s.host.timer.count = 0x1234;
+    s.host.timer.saved = 0x56;
+    s.host.int_mask = 0x7F;
+    s.status = 0x7F;
+    fill_words(&s, 46, 74); /* video and blit */
+    return s;
+}
+
+xosera_state mid_line_state(void)
+{
+    xosera_state s = idle_state();
+    s.host.timer.countdown = s.host.timer.interval = 300;
+    s.queued = 1;
+    s.engine.running = 1;
+    fill_words(&s, 36, 45); /* the engine's copies */
+    s.engine.line = 10;
+    s.engine.word = 30;
+    s.engine.kept = 0xBEEF;
+    s.engine.regs.lines = 20;
+    s.engine.regs.words = 40;
+    return s;
+}
+
+bool words_in_range(const uint16_t *w)
+{
+    bool bytes = w[28] <= 255, idle_engine = true;
+    for (int i = 0; i < 16; i++) {
+        bytes = bytes && w[i] <= 255;
+    }
+    for (int i = 33; i < 46; i++) {
+        idle_engine = idle_engine && w[i] == 0;
+    }
+    const bool masks = w[24] <= 15 && w[29] <= 127 && w[31] <= 127;
+    const bool countdown = (1 <= w[26] && w[26] <= w[27]) || (w[26] == 0 && w[27] == 0);
+    const bool flags = w[30] <= 1 && w[32] <= 1 && w[30] <= w[32];
+    const bool engine = w[32] == 0 ? idle_engine
+                                   : w[33] <= w[44] && w[34] <= w[45] && w[44] <= 32767 &&
+                                         (w[34] != 0 || w[35] == 0);
+    return bytes && masks && countdown && flags && engine;
+}
+
 static uint16_t *copy_of(const uint16_t *words, size_t n)
 {
     uint16_t *copy = (uint16_t *)malloc(n * sizeof *copy);
     assert_non_null(copy);
     memcpy(copy, words, n * sizeof *copy);
     return copy;
+}
+
+xosera *adapter_copy(const xosera *x)
+{
+    xosera *y = (xosera *)malloc(sizeof *y);
+    assert_non_null(y);
+    *y = *x;
+    y->vram = copy_of(x->vram, x->vram_len);
+    y->xr = copy_of(x->xr, x->xr_len);
+    return y;
+}
+
+void assert_adapter_equal(const xosera *got, const xosera *want)
+{
+    assert_state_equal(&got->state, &want->state);
+    assert_int_equal(got->vram_len, want->vram_len);
+    assert_int_equal(got->xr_len, want->xr_len);
+    assert_memory_equal(got->vram, want->vram, want->vram_len * sizeof *want->vram);
+    assert_memory_equal(got->xr, want->xr, want->xr_len * sizeof *want->xr);
+}
+
+/* Save and load, to a room too short and from bytes that are no saved adapter: 1 to 3 come first.
+ */
+static void assert_file_refused(const xosera *x, const xosera_state *s, size_t vram_len,
+                                size_t xr_len, xosera_refusal want)
+{
+    uint8_t bytes[4] = {3, 1, 0, 0};
+    const uint8_t before[4] = {3, 1, 0, 0};
+    xosera_state t = *s;
+    const xosera_save_answer a =
+        xosera_save(&t, x->vram, vram_len, x->xr, xr_len, bytes, sizeof bytes);
+    assert_int_equal(a.refusal, want);
+    assert_int_equal(a.length, 0);
+    assert_state_equal(&t, s);
+    assert_memory_equal(bytes, before, sizeof bytes);
+    assert_int_equal(xosera_load(&t, x->vram, vram_len, x->xr, xr_len, bytes, sizeof bytes).refusal,
+                     want);
+    assert_state_equal(&t, s);
+}
+
+/* The calls that are lent the state alone. */
+static void assert_state_refused(const xosera_state *s)
+{
+    xosera_state t = *s;
+    assert_int_equal(xosera_timer_tick(&t).refusal, XOSERA_STATE_RANGE);
+    assert_state_equal(&t, s);
+    assert_int_equal(xosera_frame_end(&t).refusal, XOSERA_STATE_RANGE);
+    assert_state_equal(&t, s);
+    const xosera_line_answer l = xosera_interrupt_line(&t);
+    assert_int_equal(l.refusal, XOSERA_STATE_RANGE);
+    assert_false(l.up);
+    assert_state_equal(&t, s);
 }
 
 void assert_refused(const xosera *x, const xosera_state *s, size_t vram_len, size_t xr_len,
@@ -73,16 +194,10 @@ void assert_refused(const xosera *x, const xosera_state *s, size_t vram_len, siz
         assert_int_equal(r.refusal, want);
         assert_int_equal(r.count, 0);
         assert_state_equal(&t, s);
+        assert_file_refused(x, s, vram_len, xr_len, want);
     }
     if (want == XOSERA_STATE_RANGE) {
-        assert_int_equal(xosera_timer_tick(&t).refusal, want);
-        assert_state_equal(&t, s);
-        assert_int_equal(xosera_frame_end(&t).refusal, want);
-        assert_state_equal(&t, s);
-        const xosera_line_answer l = xosera_interrupt_line(&t);
-        assert_int_equal(l.refusal, want);
-        assert_false(l.up);
-        assert_state_equal(&t, s);
+        assert_state_refused(s);
     }
     assert_memory_equal(x->vram, vram, x->vram_len * sizeof *vram);
     assert_memory_equal(x->xr, xr, x->xr_len * sizeof *xr);

@@ -34,7 +34,7 @@ static const range while_idle[] = {
     RANGE(engine.regs.words, 0, 0),
 };
 
-/* In mid-line, as set up by in_mid_line. */
+/* In mid-line, as set up by mid_line_state. */
 static const range while_running[] = {
     RANGE(host.timer.countdown, 1, 300), RANGE(host.timer.interval, 300, 65535),
     RANGE(queued, 0, 1),                 RANGE(engine.running, 1, 1),
@@ -53,56 +53,32 @@ static const range at_line_start[] = {
 };
 /* clang-format on */
 
-/* Words `from` to `to` of the state, all different. */
-static void fill_words(xosera_state *s, int from, int to)
-{
-    uint16_t words[XOSERA_STATE_WORDS];
-    memcpy(words, s, sizeof words);
-    fill(words + from, (size_t)(to - from + 1), (uint16_t)(from + 1));
-    memcpy(s, words, sizeof words);
-}
-
-/* Idle, and no free word 0. */
-static xosera_state idle(void)
-{
-    xosera_state s = reset_state();
-    for (int reg = 0; reg < XOSERA_MAIN_REGS; reg++) {
-        s.host.latch[reg] = (uint16_t)(0x71 + reg);
-    }
-    fill_words(&s, 16, 23); /* both ports */
-    s.host.timer.count = 0x1234;
-    s.host.timer.saved = 0x56;
-    s.host.int_mask = 0x7F;
-    s.status = 0x7F;
-    fill_words(&s, 46, 74); /* video and blit */
-    return s;
-}
-
-static xosera_state in_mid_line(void)
-{
-    xosera_state s = idle();
-    s.host.timer.countdown = s.host.timer.interval = 300;
-    s.queued = 1;
-    s.engine.running = 1;
-    fill_words(&s, 36, 45); /* the engine's copies */
-    s.engine.line = 10;
-    s.engine.word = 30;
-    s.engine.kept = 0xBEEF;
-    s.engine.regs.lines = 20;
-    s.engine.regs.words = 40;
-    return s;
-}
-
 static xosera_state at_first_word(void)
 {
-    xosera_state s = in_mid_line();
+    xosera_state s = mid_line_state();
     s.engine.line = 20;
     s.engine.word = 0;
     s.engine.kept = 0;
     return s;
 }
 
-/* All seven calls do their work, each on a copy of the state. */
+/* A save gives a file from which a load gives this state. */
+static void assert_saved(const xosera *x, const xosera_state *s)
+{
+    static uint8_t file[XOSERA_FILE_MAX];
+    xosera_state t = *s;
+    const xosera_save_answer saved =
+        xosera_save(&t, x->vram, x->vram_len, x->xr, x->xr_len, file, sizeof file);
+    assert_int_equal(saved.refusal, XOSERA_DONE);
+    assert_state_equal(&t, s);
+    t = reset_state();
+    assert_int_equal(
+        xosera_load(&t, x->vram, x->vram_len, x->xr, x->xr_len, file, saved.length).refusal,
+        XOSERA_DONE);
+    assert_state_equal(&t, s);
+}
+
+/* All nine calls do their work, each on a copy of the state. */
 static void assert_accepted(const xosera *x, const xosera_state *s)
 {
     xosera_state t = *s;
@@ -126,6 +102,7 @@ static void assert_accepted(const xosera *x, const xosera_state *s)
     const xosera_blit_answer run = xosera_blit_run(&t, x->vram, x->vram_len, x->xr, x->xr_len, 1);
     assert_int_equal(run.refusal, XOSERA_DONE);
     assert_int_equal(run.count, s->engine.running);
+    assert_saved(x, s);
 }
 
 static void assert_out_of_range(const xosera *x, const xosera_state *s)
@@ -179,20 +156,20 @@ static void every_bound(xosera_state s, const range *ranges, size_t n)
 static void bytes_and_masks_have_their_bounds(void **state)
 {
     (void)state;
-    EVERY_BOUND(idle(), bytes_and_masks);
-    EVERY_BOUND(in_mid_line(), bytes_and_masks);
+    EVERY_BOUND(idle_state(), bytes_and_masks);
+    EVERY_BOUND(mid_line_state(), bytes_and_masks);
 }
 
 static void an_idle_engine_is_all_0(void **state)
 {
     (void)state;
-    EVERY_BOUND(idle(), while_idle);
+    EVERY_BOUND(idle_state(), while_idle);
 }
 
 static void a_running_engine_has_its_bounds(void **state)
 {
     (void)state;
-    EVERY_BOUND(in_mid_line(), while_running);
+    EVERY_BOUND(mid_line_state(), while_running);
     EVERY_BOUND(at_first_word(), at_line_start);
 }
 
@@ -215,7 +192,7 @@ static bool has_range(size_t at)
 static void all_other_words_are_free(void **state)
 {
     xosera *x = (xosera *)*state;
-    const xosera_state s = in_mid_line();
+    const xosera_state s = mid_line_state();
     int free_words = 0;
     for (size_t at = 0; at < sizeof s; at += 2) {
         if (!has_range(at)) {
@@ -306,25 +283,6 @@ static void equal_states_are_equal_memory(void **state)
     adapter_free(y);
 }
 
-/* The ranges once more, by the numbers of the words alone. */
-static bool words_in_range(const uint16_t *w)
-{
-    bool bytes = w[28] <= 255, idle_engine = true;
-    for (int i = 0; i < 16; i++) {
-        bytes = bytes && w[i] <= 255;
-    }
-    for (int i = 33; i < 46; i++) {
-        idle_engine = idle_engine && w[i] == 0;
-    }
-    const bool masks = w[24] <= 15 && w[29] <= 127 && w[31] <= 127;
-    const bool countdown = (1 <= w[26] && w[26] <= w[27]) || (w[26] == 0 && w[27] == 0);
-    const bool flags = w[30] <= 1 && w[32] <= 1 && w[30] <= w[32];
-    const bool engine = w[32] == 0 ? idle_engine
-                                   : w[33] <= w[44] && w[34] <= w[45] && w[44] <= 32767 &&
-                                         (w[34] != 0 || w[35] == 0);
-    return bytes && masks && countdown && flags && engine;
-}
-
 static uint32_t random_seed = 1;
 static uint16_t random_word(void)
 {
@@ -348,7 +306,7 @@ static void words_are_served_or_refused(const xosera *x, const uint16_t *words, 
 static void random_words_are_served_or_refused(void **state)
 {
     xosera *x = (xosera *)*state;
-    const xosera_state starts[] = {idle(), in_mid_line(), at_first_word()};
+    const xosera_state starts[] = {idle_state(), mid_line_state(), at_first_word()};
     uint16_t words[XOSERA_STATE_WORDS];
     int served = 0;
     for (int round = 0; round < 3000; round++) {

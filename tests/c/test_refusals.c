@@ -2,8 +2,6 @@
  */
 #include "tests.h"
 
-static const size_t right_lengths[] = {256, 512, 1024, 2048, 4096, 8192, 16384, 32768, 65536};
-
 static void refusal_1_vram_length(void **state)
 {
     (void)state;
@@ -15,8 +13,8 @@ static void refusal_1_vram_length(void **state)
         assert_refused(x, &x->state, wrong[i], XOSERA_XR_WORDS, XM_DATA, XOSERA_VRAM_LENGTH);
         assert_refused(x, &x->state, wrong[i], 0, 99, XOSERA_VRAM_LENGTH);
     }
-    for (size_t i = 0; i < sizeof right_lengths / sizeof right_lengths[0]; i++) {
-        const xosera_write_answer a = xosera_write_byte(&x->state, x->vram, right_lengths[i], x->xr,
+    for (size_t i = 0; i < VRAM_LENGTHS; i++) {
+        const xosera_write_answer a = xosera_write_byte(&x->state, x->vram, vram_lengths[i], x->xr,
                                                         XOSERA_XR_WORDS, XM_DATA, true, 0x5A);
         assert_int_equal(a.refusal, XOSERA_DONE);
     }
@@ -100,17 +98,12 @@ static void refusal_6_reconfigure(void **state)
 
 /* The handle: the first refusal stays, all are counted, the hook hears of each. */
 
-static void count_calls(xosera *x, const xosera_refused *what)
-{
-    *(int *)x->user += (int)what->why;
-}
-
 static void the_handle_keeps_the_first_refusal(void **state)
 {
     (void)state;
     xosera *x = adapter_new(256);
     int heard = 0;
-    x->on_refusal = count_calls;
+    x->on_refusal = add_refusal;
     x->user = &heard;
     assert_int_equal(x->first_refused.why, XOSERA_DONE);
     xosera_setw(x, XM_INT_CTRL, INT_CTRL_RECONFIG_F);
@@ -141,17 +134,12 @@ static void the_handle_keeps_the_first_refusal(void **state)
     adapter_free(x);
 }
 
-static void leap(xosera *x, const xosera_refused *what)
-{
-    longjmp(*(jmp_buf *)x->user, (int)what->why);
-}
-
 static void a_hook_can_stop_the_test(void **state)
 {
     (void)state;
     xosera *x = adapter_new(256);
     jmp_buf stopped;
-    x->on_refusal = leap;
+    x->on_refusal = leap_on_refusal;
     x->user = &stopped;
     const int why = setjmp(stopped);
     if (why == 0) {

@@ -15,6 +15,7 @@
 /* An adapter over memories from the heap, as long as they are said to be and no longer, so that
  * AddressSanitizer and valgrind see a word touched beside them. */
 xosera *adapter_new(size_t vram_len);
+xosera *adapter_copy(const xosera *x); /* with memories of its own */
 void adapter_free(xosera *x);
 
 /* cmocka's set-up and tear-down: an adapter of 1,024 words, in use, any refusal of which fails the
@@ -22,17 +23,36 @@ void adapter_free(xosera *x);
 int adapter_setup(void **state);
 int adapter_teardown(void **state);
 
+/* Hooks for a handle: one adds the number of each refusal to the int that `user` points to, one
+ * leaves by longjmp, with that number, to the jmp_buf that it points to. */
+void add_refusal(xosera *x, const xosera_refused *what);
+void leap_on_refusal(xosera *x, const xosera_refused *what);
+
+/* The lengths that VRAM may have. */
+enum { VRAM_LENGTHS = 9 };
+extern const size_t vram_lengths[VRAM_LENGTHS];
+
 /* Memories full of words that are all different, or nearly so. */
 void fill(uint16_t *words, size_t n, uint16_t seed);
 
 /* Fails unless the two are equal word by word; names the word. */
 void assert_state_equal(const xosera_state *got, const xosera_state *want);
 
-/* The state after reset. */
+/* The same for state and memories. */
+void assert_adapter_equal(const xosera *got, const xosera *want);
+
+/* The state after reset; one that is idle, with no free word 0; one in mid-line with a blit queued.
+ */
 xosera_state reset_state(void);
+xosera_state idle_state(void);
+xosera_state mid_line_state(void);
+
+/* The ranges once more, by the numbers of the words alone. */
+bool words_in_range(const uint16_t *words);
 
 /* Every call that can refuse with `want`, on a copy of the state and on the adapter's memories:
- * each answers it, with byte 0, count 0 or no, and leaves every word of all three as it was. */
+ * each answers it, with byte 0, count 0, length 0 or no, and leaves every word of all three as it
+ * was. */
 void assert_refused(const xosera *x, const xosera_state *s, size_t vram_len, size_t xr_len,
                     uint8_t reg, xosera_refusal want);
 
@@ -51,6 +71,8 @@ int ranges_group(int *tests);
 int queue_group(int *tests);
 int order_group(int *tests);
 int layout_group(int *tests);
+int saved_group(int *tests);
+int files_group(int *tests);
 int api_group(int *tests);
 
 #define RUN_GROUP(name, list, count)                                                               \
