@@ -2,7 +2,9 @@
 #
 #   make lib         prove the Rattle crates and build the library
 #   make example     draw the cross, and the cross with last spring's fault
-#   make test-c      the C tests: each header alone; all tests plain, under ASan and UBSan, under valgrind
+#   make boot        boot once and save the adapter, then load it instead
+#   make test-c      the C tests: each header alone; all tests plain, under ASan and UBSan, under valgrind;
+#                    the examples, those of docs/ too
 #   make test-rust   the library against a plain Rust model, call by call;
 #                    XOSERA_CALLS=100000000 for a long run, XOSERA_SEED=n for the same calls again
 #   make bench       words and calls a second
@@ -22,7 +24,8 @@ export XOSERA_LIB_DIR
 WARN     := -Wall -Wextra -Wpedantic -Werror
 CFLAGS   := -std=c11 -O1 -gdwarf-4 $(WARN) -Iinclude
 CXXFLAGS := -std=c++17 -O1 -gdwarf-4 $(WARN) -Iinclude
-VALGRIND := valgrind -q --error-exitcode=9 --leak-check=full --errors-for-leak-kinds=all
+# With XOSERA_QUICK the test that changes each byte of a file takes fewer values.
+VALGRIND := XOSERA_QUICK=1 valgrind -q --error-exitcode=9 --leak-check=full --errors-for-leak-kinds=all
 SANITIZE := -fsanitize=address,undefined -fno-sanitize-recover=all
 
 HEADER    := include/xosera_model.h $(wildcard include/xosera/*.h)
@@ -31,7 +34,7 @@ TESTS_CPP := $(wildcard tests/c/*.cpp)
 TESTS_H   := $(HEADER) $(wildcard tests/c/*.h)
 OBJECTS    = $(TESTS_C:tests/c/%.c=build/$(1)/%.o) $(TESTS_CPP:tests/c/%.cpp=build/$(1)/%.o)
 
-.PHONY: all lib example test test-c test-headers test-rust bench clean
+.PHONY: all lib example boot test test-c test-headers test-rust bench clean
 all: lib example
 
 # rt does nothing where no crate has changed since it was last proved.
@@ -46,7 +49,14 @@ example: build/cross
 	build/cross
 	build/cross -f 10 1 21 build/cross.pbm
 
+boot: build/boot
+	@rm -f build/boot.saved
+	build/boot build/boot.saved
+	build/boot build/boot.saved
+
 build/cross: examples/cross/cross.c $(HEADER) $(LIB) | build
+	@echo "  cc $<"; $(CC) $(CFLAGS) -o $@ $< $(LIB)
+build/boot: examples/boot/boot.c $(HEADER) $(LIB) | build
 	@echo "  cc $<"; $(CC) $(CFLAGS) -o $@ $< $(LIB)
 
 test: test-c test-rust
@@ -54,7 +64,8 @@ test: test-c test-rust
 # Runs $(1) and prints its last line, or all that did not go well.
 run_tests = $(1) >$(2) 2>&1 || { grep -v -e ' RUN ' -e ' OK ' $(2); exit 1; }; tail -n 1 $(2)
 
-test-c: test-headers build/plain/tests build/sanitized/tests build/cross build/first_test build/calls
+test-c: test-headers build/plain/tests build/sanitized/tests build/cross build/boot build/first_test \
+	    build/calls
 	@printf 'plain: '
 	@$(call run_tests,build/plain/tests,build/plain/log)
 	@printf 'AddressSanitizer and UBSan: '
@@ -63,9 +74,12 @@ test-c: test-headers build/plain/tests build/sanitized/tests build/cross build/f
 	@$(call run_tests,$(VALGRIND) build/plain/tests,build/plain/valgrind.log)
 	@build/cross -f | diff examples/cross/fault.txt -
 	@echo "examples/cross shows the fault as in examples/cross/fault.txt"
+	@rm -f build/quick.saved
+	@printf 'examples/boot: '
+	@$(call run_tests,{ build/boot build/quick.saved 1 && build/boot build/quick.saved 1; },build/boot.log)
 	@printf 'docs/FIRMWARE.md: '
 	@build/first_test
-	@build/calls && echo "docs/CALLS.md: the examples hold"
+	@cd build && ./calls && echo "docs/CALLS.md: the examples hold"
 
 # Each header included alone. It needs no library.
 test-headers:
@@ -108,7 +122,7 @@ build build/plain build/sanitized:
 test-rust: $(LIB) | build
 	@(cd tests/rust && cargo test --release -- --nocapture) >build/rust.log 2>&1 || \
 	    { cat build/rust.log; exit 1; }
-	@grep -e '^order' -e '^random calls' -e '^  [a-zA-Z]' build/rust.log
+	@grep -e '^order' -e '^random calls' -e '^saved' -e '^  [a-zA-Z]' build/rust.log
 	@awk '/^test result/ { n += $$4 } END { print "Rust tests: " n " passed, 0 failed" }' build/rust.log
 
 bench: $(LIB)

@@ -1,5 +1,6 @@
 #!/bin/sh
-# Builds the library and draws the telescope's cross, then the cross with last spring's fault.
+# Builds the library and draws the telescope's cross, then the cross with last spring's fault; with
+# the argument boot, boots once, saves the adapter and loads it instead of a second boot.
 # Installs what Debian has and this machine lacks.
 set -eu
 cd "$(dirname "$0")/.."
@@ -9,4 +10,4 @@ need libc6-dev test -e /usr/include/stdint.h
 need make command -v make
 install_missing
 make lib
-make example
+make "${1:-example}"
