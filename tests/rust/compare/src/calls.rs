@@ -59,15 +59,20 @@ impl Calls {
 
     /// The memories lent: mostly whole, now and then another length, right or wrong.
     pub fn lend(&mut self, vram: usize, room: Lent) -> Lent {
+        self.lend_wrong_in(60, vram, room)
+    }
+
+    /// The same, once in `n` times with another length of VRAM.
+    pub fn lend_wrong_in(&mut self, n: u64, vram: usize, room: Lent) -> Lent {
         let mut lent = Lent {
             vram,
             xr: model::XR_WORDS,
         };
-        if self.random.one_in(60) {
+        if self.random.one_in(n) {
             let near = [0, 1, 255, vram / 2, vram - 1, vram + 1, vram * 2];
             lent.vram = self.random.pick(&near).min(room.vram);
         }
-        if self.random.one_in(90) {
+        if self.random.one_in(n + n / 2) {
             let near = [0, 512, 5120, 6144, 6655, 6657, 8192];
             lent.xr = self.random.pick(&near).min(room.xr);
         }

@@ -2,6 +2,7 @@
 
 pub mod calls;
 pub mod convert;
+pub mod files;
 pub mod pair;
 pub mod random;
 pub mod settings;

@@ -5,7 +5,8 @@ use std::fmt;
 use crate::convert::{differences, misfit, typed, words, Words};
 use crate::random::Random;
 
-/// A call with its arguments.
+/// A call with its arguments. A save and a load, which are lent a room or a file too, are functions of
+/// [`Pair`].
 #[derive(Clone, Copy, Debug, PartialEq, Eq)]
 pub enum Call {
     Reset,
@@ -18,7 +19,8 @@ pub enum Call {
     Line,
 }
 
-/// What a call says beside the state: the refusal, and a byte, a count, or 1 for a line that is up.
+/// What a call says beside the state: the refusal, and a byte, a count, a length, or 1 for a line that
+/// is up.
 #[derive(Clone, Copy, Debug, PartialEq, Eq)]
 pub struct Said {
     pub refusal: u8,
@@ -89,7 +91,7 @@ pub struct Pair {
 
 /// Where the two disagreed.
 pub struct Mismatch {
-    pub call: Call,
+    pub call: String,
     pub lent: Lent,
     pub before: xosera::State,
     pub what: String,
@@ -98,11 +100,14 @@ pub struct Mismatch {
 impl fmt::Display for Mismatch {
     fn fmt(&self, f: &mut fmt::Formatter<'_>) -> fmt::Result {
         writeln!(f, "{}", self.what)?;
-        writeln!(f, "call   {:?}", self.call)?;
+        writeln!(f, "call   {}", self.call)?;
         writeln!(f, "lent   {:?}", self.lent)?;
         write!(f, "before {:#X?}", self.before)
     }
 }
+
+/// One side after a call: the state's words and what it said.
+type Outcome = (Words, Said);
 
 impl Pair {
     /// Room for the largest memories that will be lent, all words 0.
@@ -145,25 +150,132 @@ impl Pair {
         let vram = self.library_vram.lent(lent.vram);
         let xr = self.library_xr.lent(lent.xr);
         let said = on_library(&mut fenced.state, vram, xr, call);
-        let after = fenced.state;
-        let (model_after, model_said) = self.on_model(before.words(), lent, call);
-        let wrong = |what: String| {
-            Err(Box::new(Mismatch {
-                call,
+        let model = self.on_model(before.words(), lent, call);
+        match self.difference(&fenced, said, model) {
+            None => Ok((fenced.state, said)),
+            Some(what) => Err(Box::new(Mismatch {
+                call: format!("{:?}", call),
                 lent,
                 before,
                 what,
-            }))
+            })),
+        }
+    }
+
+    /// Save on both sides, in a room of so many bytes with more around it. As for every call all must
+    /// agree, the bytes too, of which all but the file's stay as they were. The file, empty if refused.
+    pub fn save(
+        &mut self,
+        before: xosera::State,
+        lent: Lent,
+        room: usize,
+    ) -> Result<(Said, Vec<u8>), Box<Mismatch>> {
+        let untouched: Vec<u8> = (0..room + 2 * MARGIN).map(|i| (167 * i) as u8).collect();
+        let (mut library_room, mut model_room) = (untouched.clone(), untouched.clone());
+        let fenced = Fenced::new(before);
+        let vram = self.library_vram.lent(lent.vram);
+        let xr = self.library_xr.lent(lent.xr);
+        let inner = MARGIN..MARGIN + room;
+        let a = xosera::save(&fenced.state, vram, xr, &mut library_room[inner.clone()]);
+        let said = Said {
+            refusal: a.refusal,
+            value: a.length,
         };
+        let vram = self.model_vram.lent(lent.vram);
+        let xr = self.model_xr.lent(lent.xr);
+        let s = typed(before.words()).unwrap_or_else(misfit);
+        let answer = s.save(vram, xr, &mut model_room[inner]);
+        let model = outcome(before.words(), &s, answer);
+
+        let what = self.difference(&fenced, said, model).or_else(|| {
+            let (front, end) = (MARGIN, MARGIN + said.value as usize);
+            let kept = library_room[..front] == untouched[..front]
+                && library_room[end..] == untouched[end..];
+            match (0..untouched.len()).find(|&i| library_room[i] != model_room[i]) {
+                Some(i) => Some(format!(
+                    "byte {} of the room: library {:02X}, model {:02X}",
+                    i as i64 - MARGIN as i64,
+                    library_room[i],
+                    model_room[i]
+                )),
+                None if kept => None,
+                None => Some("a byte beside the file changed".to_string()),
+            }
+        });
+        match what {
+            None => {
+                let file = library_room[MARGIN..][..said.value as usize].to_vec();
+                Ok((said, file))
+            }
+            Some(what) => Err(Box::new(Mismatch {
+                call: format!("save in {} bytes", room),
+                lent,
+                before,
+                what,
+            })),
+        }
+    }
+
+    /// Load the file on both sides. As for every call all must agree; an adapter that was loaded has
+    /// this very file. The state after it.
+    pub fn load(
+        &mut self,
+        before: xosera::State,
+        lent: Lent,
+        file: &[u8],
+    ) -> Result<(xosera::State, Said), Box<Mismatch>> {
+        let mut fenced = Fenced::new(before);
+        let vram = self.library_vram.lent(lent.vram);
+        let xr = self.library_xr.lent(lent.xr);
+        let said = Said {
+            refusal: xosera::load(&mut fenced.state, vram, xr, file).refusal,
+            value: 0,
+        };
+        let vram = self.model_vram.lent(lent.vram);
+        let xr = self.model_xr.lent(lent.xr);
+        let mut s = typed(before.words()).unwrap_or_else(misfit);
+        let answer = s.load(vram, xr, file).map(|()| 0);
+        let model = outcome(before.words(), &s, answer);
+
+        let what = self.difference(&fenced, said, model).or_else(|| {
+            let other = said.refusal == 0 && self.file(fenced.state, lent.vram) != file;
+            other.then(|| "the adapter that was loaded has another file".to_string())
+        });
+        match what {
+            None => Ok((fenced.state, said)),
+            Some(what) => Err(Box::new(Mismatch {
+                call: format!("load of {} bytes", file.len()),
+                lent,
+                before,
+                what,
+            })),
+        }
+    }
+
+    /// The file of a state in range with so many words of VRAM, by the model.
+    pub fn file(&mut self, s: xosera::State, vram: usize) -> Vec<u8> {
+        let mut file = vec![0; xosera::saved_bytes(vram)];
+        let vram = self.model_vram.lent(vram);
+        let xr = self.model_xr.lent(model::XR_WORDS);
+        let s = typed(s.words()).expect("a state in range");
+        let saved = s.save(vram, xr, &mut file);
+        assert_eq!(saved, Ok(file.len() as u64));
+        file
+    }
+
+    /// What the two sides do not agree on after a call.
+    fn difference(&self, fenced: &Fenced, said: Said, model: Outcome) -> Option<String> {
+        let (model_after, model_said) = model;
+        let after = fenced.state;
         if said != model_said {
-            return wrong(format!("library says {:?}, model {:?}", said, model_said));
+            return Some(format!("library says {:?}, model {:?}", said, model_said));
         }
         if *after.words() != model_after {
             let differing = differences(after.words(), &model_after);
-            return wrong(format!("the state after it differs:\n{}", differing));
+            return Some(format!("the state after it differs:\n{}", differing));
         }
         if !fenced.whole() {
-            return wrong("a word beside the state changed".to_string());
+            return Some("a word beside the state changed".to_string());
         }
         let memories = [
             ("VRAM", &self.library_vram, &self.model_vram),
@@ -173,7 +285,7 @@ impl Pair {
             if library.words != model.words {
                 let both = library.words.iter().zip(model.words.iter());
                 let (i, (l, m)) = both.enumerate().find(|(_, (l, m))| l != m).unwrap();
-                return wrong(format!(
+                return Some(format!(
                     "{} word {}: library {:04X}, model {:04X}",
                     name,
                     i as i64 - MARGIN as i64,
@@ -182,11 +294,10 @@ impl Pair {
                 ));
             }
         }
-        Ok((after, said))
+        None
     }
 
-    /// The model's words afterwards: those before, if it refused.
-    fn on_model(&mut self, before: &Words, lent: Lent, call: Call) -> (Words, Said) {
+    fn on_model(&mut self, before: &Words, lent: Lent, call: Call) -> Outcome {
         let vram = self.model_vram.lent(lent.vram);
         let xr = self.model_xr.lent(lent.xr);
         let mut s = typed(before).unwrap_or_else(misfit);
@@ -203,16 +314,7 @@ impl Pair {
             Call::FrameEnd => s.frame_end().map(|()| 0),
             Call::Line => s.interrupt_line().map(u64::from),
         };
-        match answer {
-            Ok(value) => (words(&s), Said { refusal: 0, value }),
-            Err(refusal) => (
-                *before,
-                Said {
-                    refusal: refusal as u8,
-                    value: 0,
-                },
-            ),
-        }
+        outcome(before, &s, answer)
     }
 
     /// The largest memories that can be lent.
@@ -221,6 +323,20 @@ impl Pair {
             vram: self.library_vram.room(),
             xr: self.library_xr.room(),
         }
+    }
+}
+
+/// The model after a call. Where it refused, its words are those before.
+fn outcome(before: &Words, after: &model::State, answer: Result<u64, model::Refusal>) -> Outcome {
+    match answer {
+        Ok(value) => (words(after), Said { refusal: 0, value }),
+        Err(refusal) => (
+            *before,
+            Said {
+                refusal: refusal as u8,
+                value: 0,
+            },
+        ),
     }
 }
 

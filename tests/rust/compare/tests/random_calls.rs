@@ -5,19 +5,23 @@
 
 use compare::calls::{Calls, VRAM_LENGTHS, XR_EDGES};
 use compare::convert::{fits, in_range, typed, NARROW};
-use compare::pair::{Call, Lent, Pair};
+use compare::files::{file, room, KINDS, ROOMS};
+use compare::pair::{Call, Lent, Mismatch, Pair};
 use compare::random::Random;
 use compare::settings::{number, seed};
 
 /// Calls between two fresh starts.
 const EPISODE: u64 = 1500;
 
+/// One call in so many is a save or a load. Each goes over all of both memories.
+const SAVED: u64 = 500;
+
 /// What happened, so that a run in which too little happened is seen.
 #[derive(Default)]
 struct Tally {
     calls: u64,
-    kinds: [u64; 8],
-    refusals: [u64; 7],
+    kinds: [u64; 10],
+    refusals: [u64; 10],
     lengths: [u64; 9],
     edges: Vec<u64>,
     words: u64,
@@ -32,6 +36,13 @@ struct Tally {
     idle: u64,
     expired: u64,
     line_up: u64,
+    /// Saves by room, and by what they said.
+    rooms: [u64; 5],
+    saves: [u64; 10],
+    /// Loads by file, those that were done by file, and all by what they said.
+    files: [u64; 13],
+    loaded: [u64; 13],
+    loads: [u64; 10],
     /// States with one word alone that does not fit its byte or flag, by `NARROW`.
     misfits: [u64; 22],
 }
@@ -81,6 +92,8 @@ impl Tally {
             "tick",
             "frame end",
             "line",
+            "save",
+            "load",
         ];
         let kinds: Vec<String> = names
             .iter()
@@ -89,7 +102,7 @@ impl Tally {
             .collect();
         println!("  calls      {}", kinds.join(", "));
         println!(
-            "  answers    done {}, refusals 1 to 6: {:?}",
+            "  answers    done {}, refusals 1 to 9: {:?}",
             self.refusals[0],
             &self.refusals[1..]
         );
@@ -111,6 +124,11 @@ impl Tally {
             self.line_up,
             self.edges.iter().min().unwrap()
         );
+        let rooms = named(&ROOMS, &self.rooms);
+        println!("  saves      done {}; rooms: {}", self.saves[0], rooms);
+        let done = named(&KINDS, &self.loaded);
+        println!("  loads      done {}: {}", self.loads[0], done);
+        println!("  files      {}", named(&KINDS, &self.files));
         println!(
             "  words      each byte and flag alone out of range at least {} times",
             self.misfits.iter().min().unwrap()
@@ -119,8 +137,20 @@ impl Tally {
 
     /// Everything that the papers speak of has happened.
     fn require_all(&self) {
+        let of_save = [0, 1, 2, 3, 7].map(|said| self.saves[said]);
+        let of_load = [0, 1, 2, 3, 8, 9].map(|said| self.loads[said]);
+        // An own file, another's, and one with a byte changed that is another's then.
+        let loaded = ["own", "another's", "of the state", "any byte"].map(|name| {
+            let at = KINDS.iter().position(|&(_, of)| of == name);
+            self.loaded[at.expect("one of them")]
+        });
         let each = [
             &self.kinds[..],
+            &of_save[..],
+            &of_load[..],
+            &self.rooms[..],
+            &self.files[..],
+            &loaded[..],
             &self.refusals[..],
             &self.lengths[..],
             &self.edges[..],
@@ -145,6 +175,18 @@ impl Tally {
         );
     }
 }
+
+/// Names with numbers, those of 0 left out.
+fn named<T>(names: &[(T, &str)], numbers: &[u64]) -> String {
+    let each = names.iter().zip(numbers).filter(|&(_, &n)| n > 0);
+    let each: Vec<String> = each
+        .map(|((_, name), n)| format!("{} {}", name, n))
+        .collect();
+    each.join(", ")
+}
+
+const SAVE: usize = 8;
+const LOAD: usize = 9;
 
 fn kind(call: Call) -> usize {
     match call {
@@ -178,9 +220,17 @@ fn episode(calls: &mut Calls, tally: &mut Tally, length: usize, n: u64) -> Resul
     let mut pair = Pair::new(room);
     pair.fill(calls.random());
     let mut state = xosera::State::reset();
+    let mut own = None;
     for i in 0..n {
         if calls.random().one_in(300) {
             state = calls.state_in_range();
+        }
+        if calls.random().one_in(SAVED) {
+            state = save_or_load(calls, tally, &mut pair, vram, state, &mut own)
+                .map_err(|mismatch| format!("call {} of the episode\n{}", i, mismatch))?;
+            tally.calls += 1;
+            tally.lengths[length] += 1;
+            continue;
         }
         let astray = calls.random().one_in(40);
         let before = if astray {
@@ -215,6 +265,57 @@ fn episode(calls: &mut Calls, tally: &mut Tally, length: usize, n: u64) -> Resul
         }
     }
     Ok(())
+}
+
+/// A save, or a load of some file. The state that the episode goes on with.
+fn save_or_load(
+    calls: &mut Calls,
+    tally: &mut Tally,
+    pair: &mut Pair,
+    vram: usize,
+    state: xosera::State,
+    own: &mut Option<Vec<u8>>,
+) -> Result<xosera::State, Box<Mismatch>> {
+    let before = match calls.random().one_in(10) {
+        true => calls.state_out_of_range(state),
+        false => state,
+    };
+    let lent = calls.lend_wrong_in(10, vram, pair.room());
+    let (call, after, said) = if calls.random().one_in(if own.is_none() { 2 } else { 4 }) {
+        let which = calls.random().pick(&[0, 0, 0, 1, 2, 2, 3, 4]);
+        let room = room(calls, ROOMS[which].0, lent.vram);
+        let (said, saved) = pair.save(before, lent, room)?;
+        if said.refusal == 0 {
+            assert_eq!(said.value as usize, xosera::saved_bytes(lent.vram));
+            *own = Some(saved);
+        }
+        tally.rooms[which] += 1;
+        tally.saves[said.refusal as usize] += 1;
+        (SAVE, before, said)
+    } else {
+        let which = calls.random().below(15).saturating_sub(2) as usize;
+        let own = own.get_or_insert_with(|| pair.file(state, vram));
+        let kind = KINDS[which].0;
+        let file = file(calls, kind, vram, own);
+        let (after, said) = pair.load(before, lent, &file)?;
+        assert!(
+            kind.may_load() || matches!(said.refusal, 1 | 2 | 3 | 8),
+            "{:?} says {}",
+            kind,
+            said.refusal
+        );
+        tally.files[which] += 1;
+        tally.loaded[which] += u64::from(said.refusal == 0);
+        tally.loads[said.refusal as usize] += 1;
+        (LOAD, after, said)
+    };
+    tally.kinds[call] += 1;
+    tally.refusals[said.refusal as usize] += 1;
+    Ok(if in_range(before.words()) {
+        after
+    } else {
+        state
+    })
 }
 
 #[test]

@@ -1,10 +1,12 @@
 //! The adapter of document 01 a second time, in plain Rust.
 //!
-//! This crate shares nothing with the library. It follows document 01 alone, a chapter to a module, and
-//! says everything in the plainest way, nibble by nibble. The crate `compare` runs both side by side.
+//! This crate shares nothing with the library. It follows document 01 and the change requests alone, a
+//! chapter or a request to a module, and says everything in the plainest way, nibble by nibble. The
+//! crate `compare` runs both side by side.
 
 mod blitter;
 mod host;
+mod saved;
 mod state;
 mod xr;
 

@@ -11,6 +11,9 @@ pub enum Refusal {
     NoRegister = 4,
     BlitterFull = 5,
     Reconfigure = 6,
+    RoomTooShort = 7,
+    NotSaved = 8,
+    OtherVram = 9,
 }
 
 /// The blitter's ten registers in the order of their addresses, 0x40 to 0x49.

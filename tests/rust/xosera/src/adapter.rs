@@ -2,9 +2,9 @@
 
 use std::fmt;
 
-use crate::{State, XR_WORDS};
+use crate::{saved_bytes, State, XR_WORDS};
 
-/// A refused call, by document 01's number. It changed nothing.
+/// A refused call, by its number in document 01's table. It changed nothing.
 #[derive(Clone, Copy, Debug, PartialEq, Eq)]
 pub struct Refusal(pub u8);
 
@@ -17,6 +17,9 @@ impl fmt::Display for Refusal {
             4 => "register number over 15",
             5 => "blitter register written while the blitter is full",
             6 => "XM_INT_CTRL written with bit 15 set",
+            7 => "room too short for the saved adapter",
+            8 => "not a saved adapter",
+            9 => "saved VRAM is not as long as the memory lent",
             _ => "unknown refusal",
         };
         write!(f, "refusal {}: {}", self.0, text)
@@ -109,5 +112,25 @@ impl Adapter {
     pub fn interrupt_line(&self) -> Result<bool, Refusal> {
         let a = crate::interrupt_line(&self.state);
         done(a.up, a.refusal)
+    }
+
+    /// Write the file at the front of the room; its length in bytes.
+    pub fn save(&self, room: &mut [u8]) -> Result<usize, Refusal> {
+        let a = crate::save(&self.state, &self.vram, &self.xr, room);
+        done(a.length as usize, a.refusal)
+    }
+
+    /// The file, in a room of its own.
+    pub fn saved(&self) -> Result<Vec<u8>, Refusal> {
+        let mut room = vec![0; saved_bytes(self.vram.len())];
+        let length = self.save(&mut room)?;
+        room.truncate(length);
+        Ok(room)
+    }
+
+    /// Become the adapter whose file this is. Its VRAM must be as long as this one's.
+    pub fn load(&mut self, file: &[u8]) -> Result<(), Refusal> {
+        let (s, vram, xr) = (&mut self.state, &mut self.vram, &mut self.xr);
+        done((), crate::load(s, vram, xr, file).refusal)
     }
 }

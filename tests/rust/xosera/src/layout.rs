@@ -16,6 +16,11 @@ pub const XM_DATA_2: u8 = 11;
 /// Words of XR memory.
 pub const XR_WORDS: usize = 6656;
 
+/// Bytes of a saved adapter's file (docs/SAVED.md): contents, state and XR memory, then VRAM.
+pub const fn saved_bytes(vram_words: usize) -> usize {
+    28 + 2 * STATE_WORDS + 2 * XR_WORDS + 2 * vram_words
+}
+
 /// An address in VRAM.
 #[repr(C)]
 #[derive(Clone, Copy, Debug, Default, PartialEq, Eq)]
@@ -172,4 +177,18 @@ pub struct StateAnswer {
 pub struct LineAnswer {
     pub refusal: u8,
     pub up: bool,
+}
+
+/// `length` is the file's in bytes, 0 if refused.
+#[repr(C)]
+#[derive(Clone, Copy, Debug, PartialEq, Eq)]
+pub struct SaveAnswer {
+    pub refusal: u8,
+    pub length: u64,
+}
+
+#[repr(C)]
+#[derive(Clone, Copy, Debug, PartialEq, Eq)]
+pub struct LoadAnswer {
+    pub refusal: u8,
 }

@@ -1,6 +1,6 @@
 //! Safe Rust calls to `libfirmware.a`, the model of the Xosera video adapter.
 //!
-//! The functions at the top level are the library's own eight calls, with the state and the memories
+//! The functions at the top level are the library's own ten calls, with the state and the memories
 //! lent by reference.
 //! [`Adapter`] owns a state and both memories and answers with `Result`.
 //!
@@ -64,13 +64,31 @@ pub mod ffi {
         pub fn xosera_timer_tick(s: *mut State) -> StateAnswer;
         pub fn xosera_frame_end(s: *mut State) -> StateAnswer;
         pub fn xosera_interrupt_line(s: *const State) -> LineAnswer;
+        pub fn xosera_save(
+            s: *const State,
+            vram: *const u16,
+            vram_len: usize,
+            xr: *const u16,
+            xr_len: usize,
+            room: *mut u8,
+            room_len: usize,
+        ) -> SaveAnswer;
+        pub fn xosera_load(
+            s: *mut State,
+            vram: *mut u16,
+            vram_len: usize,
+            xr: *mut u16,
+            xr_len: usize,
+            file: *const u8,
+            file_len: usize,
+        ) -> LoadAnswer;
     }
 }
 
 // SAFETY, for every call below: the state is `repr(C)`, words and no padding; a slice is its pointer
-// and its length in words. All are lent for the call alone and, where they are `&mut`, to nobody else,
-// so that none overlaps another that is written. The library takes slices of any length and any words
-// as state.
+// and its length, in words for a memory, in bytes for a file and its room. All are lent for the call
+// alone and, where they are `&mut`, to nobody else, so that none overlaps another that is written. The
+// library takes slices of any length and any words as state.
 
 /// Fill the state as after reset.
 pub fn reset(s: &mut State) {
@@ -119,4 +137,16 @@ pub fn frame_end(s: &mut State) -> StateAnswer {
 /// Is the interrupt line up?
 pub fn interrupt_line(s: &State) -> LineAnswer {
     unsafe { ffi::xosera_interrupt_line(s) }
+}
+
+/// Write the adapter's file (docs/SAVED.md) at the front of the room.
+pub fn save(s: &State, vram: &[u16], xr: &[u16], room: &mut [u8]) -> SaveAnswer {
+    let (v, vn, x, xn) = (vram.as_ptr(), vram.len(), xr.as_ptr(), xr.len());
+    unsafe { ffi::xosera_save(s, v, vn, x, xn, room.as_mut_ptr(), room.len()) }
+}
+
+/// Become the adapter whose file this is.
+pub fn load(s: &mut State, vram: &mut [u16], xr: &mut [u16], file: &[u8]) -> LoadAnswer {
+    let (v, vn, x, xn) = (vram.as_mut_ptr(), vram.len(), xr.as_mut_ptr(), xr.len());
+    unsafe { ffi::xosera_load(s, v, vn, x, xn, file.as_ptr(), file.len()) }
 }

@@ -1,6 +1,7 @@
-//! The owning adapter: words, the XR space, blits, and refusals as errors.
+//! The owning adapter: words, the XR space, blits, saved files, and refusals as errors.
 
-use xosera::{Adapter, Refusal, XM_DATA, XM_INT_CTRL, XM_RD_ADDR, XM_SYS_CTRL, XM_WR_ADDR};
+use xosera::{saved_bytes, Adapter, Refusal};
+use xosera::{XM_DATA, XM_INT_CTRL, XM_RD_ADDR, XM_SYS_CTRL, XM_WR_ADDR};
 
 #[test]
 fn words_go_in_and_come_back() {
@@ -60,4 +61,49 @@ fn a_refusal_is_an_error_and_changes_nothing() {
     x.state.status = 128;
     assert_eq!(x.interrupt_line(), Err(Refusal(3)));
     assert_eq!(x.timer_tick(), Err(Refusal(3)));
+}
+
+#[test]
+fn a_saved_adapter_comes_back() {
+    let mut x = Adapter::new(256);
+    x.write_word(XM_WR_ADDR, 0x20).unwrap();
+    x.write_word(XM_DATA, 0xCAFE).unwrap();
+    x.write_xr(0x8001, 0x0ABC).unwrap();
+    let file = x.saved().unwrap();
+    assert_eq!(file.len(), saved_bytes(256));
+    assert_eq!(file.len(), 14_002);
+    assert_eq!(file[13_490 + 0x40..][..2], [0xCA, 0xFE]);
+
+    let mut y = Adapter::new(256);
+    y.write_word(XM_INT_CTRL, 0x1000).unwrap();
+    y.load(&file).unwrap();
+    assert_eq!(y, x);
+    assert_eq!(y.saved(), Ok(file));
+}
+
+#[test]
+fn a_save_leaves_the_room_behind_the_file() {
+    let x = Adapter::new(512);
+    let file = x.saved().unwrap();
+    let mut room = vec![0xA5; file.len() + 3];
+    assert_eq!(x.save(&mut room), Ok(file.len()));
+    assert_eq!(room[..file.len()], file);
+    assert_eq!(room[file.len()..], [0xA5; 3]);
+
+    let mut short = vec![0xA5; file.len() - 1];
+    assert_eq!(x.save(&mut short), Err(Refusal(7)));
+    assert!(short.iter().all(|&byte| byte == 0xA5));
+}
+
+#[test]
+fn another_file_is_refused() {
+    let mut x = Adapter::new(256);
+    let before = x.clone();
+    let mut file = Adapter::new(512).saved().unwrap();
+    assert_eq!(x.load(&file), Err(Refusal(9)));
+    file.push(0);
+    assert_eq!(x.load(&file), Err(Refusal(8)));
+    assert_eq!(x.load(&[]), Err(Refusal(8)));
+    assert_eq!(x, before);
+    assert_eq!(Refusal(8).to_string(), "refusal 8: not a saved adapter");
 }

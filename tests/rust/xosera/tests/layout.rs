@@ -3,7 +3,10 @@
 use std::mem::{align_of, size_of};
 use std::ptr::addr_of;
 
-use xosera::{BlitAnswer, LineAnswer, ReadAnswer, State, StateAnswer, WriteAnswer, STATE_WORDS};
+use xosera::{
+    BlitAnswer, LineAnswer, LoadAnswer, ReadAnswer, SaveAnswer, StateAnswer, WriteAnswer,
+};
+use xosera::{State, STATE_WORDS};
 
 fn numbered() -> State {
     let mut words = [0; STATE_WORDS];
@@ -58,7 +61,14 @@ fn answers_are_laid_out_as_in_c() {
     };
     let at = addr_of!(count.count) as usize - addr_of!(count) as usize;
     assert_eq!((size_of::<BlitAnswer>(), at), (16, 8));
+    let saved = SaveAnswer {
+        refusal: 0,
+        length: 0,
+    };
+    let at = addr_of!(saved.length) as usize - addr_of!(saved) as usize;
+    assert_eq!((size_of::<SaveAnswer>(), at), (16, 8));
     assert_eq!((size_of::<WriteAnswer>(), size_of::<StateAnswer>()), (1, 1));
+    assert_eq!(size_of::<LoadAnswer>(), 1);
     assert_eq!((size_of::<ReadAnswer>(), size_of::<LineAnswer>()), (2, 2));
 }
 
@@ -66,6 +76,7 @@ fn answers_are_laid_out_as_in_c() {
 #[test]
 fn words_out_of_range_are_refused() {
     let mut x = xosera::Adapter::new(256);
+    let file = x.saved().unwrap();
     for (number, word) in [(0, 256), (15, 0x8000), (28, 256), (30, 2), (32, 0x0100)] {
         let mut words = *State::reset().words();
         words[number] = word;
@@ -77,6 +88,8 @@ fn words_out_of_range_are_refused() {
         assert_eq!(x.timer_tick(), Err(xosera::Refusal(3)));
         assert_eq!(x.frame_end(), Err(xosera::Refusal(3)));
         assert_eq!(x.interrupt_line(), Err(xosera::Refusal(3)));
+        assert_eq!(x.saved(), Err(xosera::Refusal(3)));
+        assert_eq!(x.load(&file), Err(xosera::Refusal(3)));
         assert_eq!(x, before);
     }
 }
