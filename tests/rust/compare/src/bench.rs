@@ -9,7 +9,10 @@
 use std::time::Instant;
 
 use compare::convert::{typed, words};
-use xosera::{BlitAnswer, LineAnswer, ReadAnswer, StateAnswer, WriteAnswer};
+use xosera::{
+    saved_bytes, BlitAnswer, LineAnswer, LoadAnswer, ReadAnswer, SaveAnswer, StateAnswer,
+    WriteAnswer,
+};
 
 const VRAM_WORDS: usize = 65536;
 
@@ -22,7 +25,10 @@ const WORDS: u64 = 65536;
 /// Single calls in a round.
 const CALLS: u64 = 4096;
 
-/// A side's seven calls, on a state of type `S`.
+/// The words of a file: state, XR memory and VRAM.
+const FILE_WORDS: u64 = (xosera::STATE_WORDS + xosera::XR_WORDS + VRAM_WORDS) as u64;
+
+/// A side's nine calls, on a state of type `S`.
 #[derive(Clone, Copy)]
 struct Calls<S> {
     write_byte:
@@ -34,6 +40,24 @@ struct Calls<S> {
     timer_tick: unsafe extern "C" fn(*mut S) -> StateAnswer,
     frame_end: unsafe extern "C" fn(*mut S) -> StateAnswer,
     interrupt_line: unsafe extern "C" fn(*const S) -> LineAnswer,
+    save: unsafe extern "C" fn(
+        *const S,
+        *const u16,
+        usize,
+        *const u16,
+        usize,
+        *mut u8,
+        usize,
+    ) -> SaveAnswer,
+    load: unsafe extern "C" fn(
+        *mut S,
+        *mut u16,
+        usize,
+        *mut u16,
+        usize,
+        *const u8,
+        usize,
+    ) -> LoadAnswer,
 }
 
 const LIBRARY: Calls<xosera::State> = Calls {
@@ -44,6 +68,8 @@ const LIBRARY: Calls<xosera::State> = Calls {
     timer_tick: xosera::ffi::xosera_timer_tick,
     frame_end: xosera::ffi::xosera_frame_end,
     interrupt_line: xosera::ffi::xosera_interrupt_line,
+    save: xosera::ffi::xosera_save,
+    load: xosera::ffi::xosera_load,
 };
 
 const PLAIN: Calls<model::State> = Calls {
@@ -54,6 +80,8 @@ const PLAIN: Calls<model::State> = Calls {
     timer_tick: plain::timer_tick,
     frame_end: plain::frame_end,
     interrupt_line: plain::interrupt_line,
+    save: plain::save,
+    load: plain::load,
 };
 
 /// The plain model's calls as C functions. Pointers and lengths are those of live memory, as for the
@@ -62,7 +90,9 @@ mod plain {
     use std::slice::{from_raw_parts, from_raw_parts_mut};
 
     use model::{Refusal, State};
-    use xosera::{BlitAnswer, LineAnswer, ReadAnswer, StateAnswer, WriteAnswer};
+    use xosera::{
+        BlitAnswer, LineAnswer, LoadAnswer, ReadAnswer, SaveAnswer, StateAnswer, WriteAnswer,
+    };
 
     /// The refusal's number and the answer, 0 if refused.
     fn said<T: Default>(answer: Result<T, Refusal>) -> (u8, T) {
@@ -152,19 +182,54 @@ mod plain {
         let (refusal, up) = said((*s).interrupt_line());
         LineAnswer { refusal, up }
     }
+
+    #[inline(never)]
+    pub unsafe extern "C" fn save(
+        s: *const State,
+        vram: *const u16,
+        vram_len: usize,
+        xr: *const u16,
+        xr_len: usize,
+        room: *mut u8,
+        room_len: usize,
+    ) -> SaveAnswer {
+        let vram = from_raw_parts(vram, vram_len);
+        let xr = from_raw_parts(xr, xr_len);
+        let room = from_raw_parts_mut(room, room_len);
+        let (refusal, length) = said((*s).save(vram, xr, room));
+        SaveAnswer { refusal, length }
+    }
+
+    #[inline(never)]
+    pub unsafe extern "C" fn load(
+        s: *mut State,
+        vram: *mut u16,
+        vram_len: usize,
+        xr: *mut u16,
+        xr_len: usize,
+        file: *const u8,
+        file_len: usize,
+    ) -> LoadAnswer {
+        let vram = from_raw_parts_mut(vram, vram_len);
+        let xr = from_raw_parts_mut(xr, xr_len);
+        let file = from_raw_parts(file, file_len);
+        let (refusal, ()) = said((*s).load(vram, xr, file));
+        LoadAnswer { refusal }
+    }
 }
 
-/// A side: its calls, the state that every round starts from, and its memories.
+/// A side: its calls, the state that every round starts from, its memories, and room for a file.
 struct Side<S> {
     calls: Calls<S>,
     start: S,
     state: S,
     vram: Vec<u16>,
     xr: Vec<u16>,
+    room: Vec<u8>,
 }
 
 impl<S: Copy> Side<S> {
-    fn new(calls: Calls<S>, start: S, x: &xosera::Adapter) -> Side<S> {
+    fn new(calls: Calls<S>, start: S, x: &xosera::Adapter, room: usize) -> Side<S> {
         Side {
             // Read as the loops will see it: which functions they call is not known there.
             calls: unsafe { std::ptr::read_volatile(&calls) },
@@ -172,6 +237,7 @@ impl<S: Copy> Side<S> {
             state: start,
             vram: x.vram.clone(),
             xr: x.xr.clone(),
+            room: vec![0; room],
         }
     }
 
@@ -184,13 +250,18 @@ impl<S: Copy> Side<S> {
     }
 
     fn memories_equal<T>(&self, other: &Side<T>) -> bool {
-        self.vram == other.vram && self.xr == other.xr
+        self.vram == other.vram && self.xr == other.xr && self.room == other.room
     }
 }
 
 /// One round's work, the same for every side; the answers in one number.
 trait Work {
     fn done_by<S>(&self, m: &mut Side<S>) -> u64;
+
+    /// Bytes of room that it needs.
+    fn room(&self) -> usize {
+        0
+    }
 }
 
 /// One run to the blit's end.
@@ -331,6 +402,37 @@ impl Work for Lines {
     }
 }
 
+/// One save.
+struct Save;
+
+impl Work for Save {
+    fn done_by<S>(&self, m: &mut Side<S>) -> u64 {
+        let (v, vn, x, xn) = (m.vram.as_ptr(), m.vram.len(), m.xr.as_ptr(), m.xr.len());
+        let (r, rn) = (m.room.as_mut_ptr(), m.room.len());
+        unsafe { (m.calls.save)(&m.state, v, vn, x, xn, r, rn).length }
+    }
+
+    fn room(&self) -> usize {
+        saved_bytes(VRAM_WORDS)
+    }
+}
+
+/// One load of this file.
+struct Load(Vec<u8>);
+
+impl Work for Load {
+    fn done_by<S>(&self, m: &mut Side<S>) -> u64 {
+        let (v, vn, x, xn) = (
+            m.vram.as_mut_ptr(),
+            m.vram.len(),
+            m.xr.as_mut_ptr(),
+            m.xr.len(),
+        );
+        let (f, n) = (self.0.as_ptr(), self.0.len());
+        u64::from(unsafe { (m.calls.load)(&mut m.state, v, vn, x, xn, f, n).refusal })
+    }
+}
+
 fn mixed(sum: u64, refusal: u8, value: u8) -> u64 {
     sum.rotate_left(1) ^ u64::from(refusal) << 8 ^ u64::from(value)
 }
@@ -338,8 +440,8 @@ fn mixed(sum: u64, refusal: u8, value: u8) -> u64 {
 /// Print the rates of the library and of the plain model, and their ratio.
 fn compare<W: Work>(name: &str, unit: &str, units: u64, x: &xosera::Adapter, work: W) {
     let plain_start = typed(x.state.words()).expect("a state that a call left");
-    let mut library = Side::new(LIBRARY, x.state, x);
-    let mut plain = Side::new(PLAIN, plain_start, x);
+    let mut library = Side::new(LIBRARY, x.state, x, work.room());
+    let mut plain = Side::new(PLAIN, plain_start, x, work.room());
     let mut best = [f64::MAX; 2];
     for _ in 0..ROUNDS {
         let (library_time, library_answers) = library.round(&work);
@@ -437,4 +539,9 @@ fn main() {
     let mut up = x;
     up.frame_end().expect("a frame end that is done");
     compare("interrupt line questions", "Mcalls/s", CALLS, &up, Lines);
+
+    let (_, busy) = &blits[1];
+    let file = busy.saved().expect("an adapter that calls left");
+    compare("a save", "Mwords/s", FILE_WORDS, busy, Save);
+    compare("a load", "Mwords/s", FILE_WORDS, &up, Load(file));
 }
