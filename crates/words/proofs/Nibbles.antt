@@ -117,9 +117,9 @@ pub spread-by-product : (m : ℕ) → singled (m % 16) * 15 ≡ spread m
 unfolding spread bit right
 spread-by-product m = eqb→eq (singled (m % 16) * 15) (spread (m % 16)) (below-tested 16 right tt (m % 16) (omega arith)) ∙ spread-cut m
 
--- What a mask's spread shows of it.
+-- What a mask's spread shows of it: one bit of each nibble, the four brought together by multiplication.
 abbrev pub gather : ℕ → ℕ
-gather b = bitOr (bitOr (bitOr (bitAnd (b / 2 ^ 12) 8) (bitAnd (b / 2 ^ 8) 4)) (bitAnd (b / 2 ^ 4) 2)) (bitAnd b 1)
+gather b = bitAnd b 0x1111 * 0x0249 / 2 ^ 9 % 16
 
 back : ℕ → Bool
 unfolding spread bit

@@ -42,7 +42,7 @@ pub fn spread(mask: u16) -> u16
 pub fn gathered(bits: u16) -> u16
     ensures { λ r. ⌜ ((m : ℕ) → bits ≡ spread m → r ≡ m % 16) ⌝ }
 {
-    ((bits >> 12) & 8) | ((bits >> 8) & 4) | ((bits >> 4) & 2) | (bits & 1)
+    (((((bits & 0x1111) as u32) * 0x0249) >> 9) % 16) as u16
 }
 
 // A word written under a spread nibble mask.
