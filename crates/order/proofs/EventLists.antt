@@ -14,9 +14,10 @@ use Rattle.xosera.specs.Calls.{answer, after}
 use Rattle.xosera.specs.Sequences.{afterAll}
 use Rattle.xosera.proofs.RangeLaws.{in-range-unqueued}
 use Rattle.xosera.proofs.StepLaws.{steps-idle, over-after}
+use Rattle.xosera.proofs.FitLaws.{after-step, after-run}
 use Rattle.order.specs.Order.{stepsIn, withoutSteps, AllCalls, answered, butBit6, Alike}
 use Rattle.order.specs.Work.{agreedWork}
-use Rattle.order.proofs.Fit.{fit-idle, after-step, after-run}
+use Rattle.order.proofs.Fit.{fit-idle}
 use Rattle.order.proofs.Finish.{Finishes, OnCourse, steps-on-course}
 use Rattle.order.proofs.CallsApart.{Apart}
 use Rattle.order.proofs.CallAcross.{call-on-course, call-refused-alike}

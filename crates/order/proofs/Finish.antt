@@ -13,8 +13,9 @@ use Rattle.xosera.proofs.Branches.{or-eq-false-iff}
 use Rattle.xosera.proofs.StepCases.{step-cases, stepped-idle, steps-keep}
 use Rattle.xosera.proofs.RangeLaws.{in-range-unqueued, stepped-side, steps-side}
 use Rattle.xosera.proofs.StepLaws.{running-stepped-left, steps-left, over-after}
+use Rattle.xosera.proofs.FitLaws.{stepped-fit, steps-fit}
 use Rattle.order.specs.Order.{blitReads, blitWrites}
-use Rattle.order.proofs.Fit.{stepped-fit, steps-fit, fit-idle}
+use Rattle.order.proofs.Fit.{fit-idle}
 use Rattle.order.proofs.Status.{SameBits, stepped-status}
 
 -- An adapter with its pending work done.

@@ -11,9 +11,9 @@ use Rattle.xosera.specs.Events.{Event, step}
 use Rattle.xosera.specs.Refusals.{Fit}
 use Rattle.xosera.specs.Calls.{after}
 use Rattle.xosera.specs.Sequences.{afterAll}
+use Rattle.xosera.proofs.FitLaws.{stepped-fit, after-step}
 use Rattle.order.specs.Order.{withoutSteps, AllCalls, Keeps, enoughSteps, answers, butBit6, Alike, blitFirst}
 use Rattle.order.specs.Work.{agreedWork, OrderOfWork}
-use Rattle.order.proofs.Fit.{stepped-fit, after-step}
 use Rattle.order.proofs.Finish.{finished, finished-finishes}
 use Rattle.order.proofs.CallsApart.{Patient, all-map, keeps-apart}
 use Rattle.order.proofs.EventLists.{in-any-order}

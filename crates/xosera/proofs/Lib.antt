@@ -12,4 +12,5 @@ pub mod StepCases
 pub mod RangeLaws
 pub mod PlanLaws
 pub mod RefusalLaws
+pub mod FitLaws
 pub mod StepLaws
