@@ -17,21 +17,22 @@ ghost use Prim.Native.Nat.{ℕ, _<_, _≤_};
 ghost use lib.ListN.{length, getD};
 ghost use Rattle.xosera.specs.State.{stateWords, stateAt};
 ghost use Rattle.xosera.specs.Memories.{isVramLength};
-ghost use Rattle.xosera.specs.Adapter.{Side};
+ghost use Rattle.xosera.specs.Adapter.{Side, adapterAt};
 ghost use Rattle.xosera.specs.HostBytes.{writeWord, writeByte, readByte};
 ghost use Rattle.xosera.specs.TimerTick as TimerTick;
 ghost use Rattle.xosera.specs.Plan.{Performs};
 ghost use Rattle.xosera.specs.Calls.{lineUp};
 
-// An odd write, by register.
-fn write_word(s: &mut [u16], vram: &mut [u16], xr: &mut [u16], reg: u8, w: u16)
+// An odd write, by register. The answer is the nibbles of VRAM that it wrote.
+fn write_word(s: &mut [u16], vram: &mut [u16], xr: &mut [u16], reg: u8, w: u16) -> u16
     requires { ⌜ length (now s) ≡ stateWords ⌝ }
     requires { ⌜ isVramLength (length (now vram)) ≡ true ⌝ }
     requires { ⌜ length (now xr) ≡ 6656 ⌝ }
-    ensures { λ _. ⌜
+    ensures done { λ _. ⌜
         Performs (λ (side : Side). writeWord reg side w) (now (s .entry)) (now (vram .entry)) (now (xr .entry)) (now (s .exit))
         (now (vram .exit)) (now (xr .exit))
         ⌝ }
+    ensures mask { λ r. ⌜ r ≡ writeWord reg (adapterAt (now (s .entry)) (now (vram .entry)) (now (xr .entry)) .side) w .store .mask ⌝ }
 {
     match reg {
         0 => s[NIBBLES] = w % 16,
@@ -44,30 +45,32 @@ fn write_word(s: &mut [u16], vram: &mut [u16], xr: &mut [u16], reg: u8, w: u16)
         7 => vram_port::load(s, vram, VramAddr(w)),
         8 => s[WR_INCR] = w,
         9 => s[WR_ADDR] = w,
-        10 => vram_port::write(s, vram, w),
-        11 => vram_port::write(s, vram, w),
+        10 => return vram_port::write(s, vram, w),
+        11 => return vram_port::write(s, vram, w),
         _ => {}
     }
+    0
 }
 
-// A byte write.
-pub fn write(s: &mut [u16], vram: &mut [u16], xr: &mut [u16], reg: u8, odd: bool, byte: u8)
+// A byte write. The answer is the nibbles of VRAM that it wrote.
+pub fn write(s: &mut [u16], vram: &mut [u16], xr: &mut [u16], reg: u8, odd: bool, byte: u8) -> u16
     requires { ⌜ length (now s) ≡ stateWords ⌝ }
     requires { ⌜ isVramLength (length (now vram)) ≡ true ⌝ }
     requires { ⌜ length (now xr) ≡ 6656 ⌝ }
     requires { ⌜ reg < 16 ⌝ }
     requires { ⌜ getD (stateAt (now s) .host .latches) reg 0 ≤ 255 ⌝ }
-    ensures { λ _. ⌜
+    ensures done { λ _. ⌜
         Performs (λ (side : Side). writeByte side reg odd byte) (now (s .entry)) (now (vram .entry)) (now (xr .entry))
         (now (s .exit)) (now (vram .exit)) (now (xr .exit))
         ⌝ }
+    ensures mask { λ r. ⌜ r ≡ writeByte (adapterAt (now (s .entry)) (now (vram .entry)) (now (xr .entry)) .side) reg odd byte .store .mask ⌝ }
 {
     if !odd {
         host_writes::fill_latch(s, reg, byte);
-        return;
+        return 0;
     }
     let w = host_writes::word_written(s, reg, byte);
-    write_word(s, vram, xr, reg, w);
+    write_word(s, vram, xr, reg, w)
 }
 
 // What a byte read does besides giving its byte.

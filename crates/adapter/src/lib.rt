@@ -43,10 +43,10 @@ pub fn write_byte(
 {
     let refusal = refusals::write_refusal(s, vram.len(), xr.len(), reg, odd, byte);
     if refusal != 0 {
-        return WriteAnswer { refusal };
+        return WriteAnswer { refusal, mask: 0 };
     }
-    access::write(s, vram, xr, reg, odd, byte);
-    WriteAnswer { refusal: 0 }
+    let mask = words::low_byte(access::write(s, vram, xr, reg, odd, byte));
+    WriteAnswer { refusal: 0, mask }
 }
 
 // A host reads one byte of a main register.
@@ -84,10 +84,19 @@ pub fn blit_step(s: &mut [u16; STATE_WORDS], vram: &mut [u16], xr: &[u16]) -> Bl
     let registers = ranges::registers_in_range(s);
     let refusal = refusals::lent_refusal(s, registers, vram.len(), xr.len());
     if refusal != 0 {
-        return BlitAnswer { refusal, count: 0 };
+        return BlitAnswer {
+            refusal,
+            mask: 0,
+            count: 0,
+        };
     }
-    let count = queue::step(s, vram);
-    BlitAnswer { refusal: 0, count }
+    let done = queue::step(s, vram);
+    let mask = words::low_byte(done.mask);
+    BlitAnswer {
+        refusal: 0,
+        mask,
+        count: done.count,
+    }
 }
 
 // A run of up to n blit steps.
@@ -101,10 +110,19 @@ pub fn blit_run(s: &mut [u16; STATE_WORDS], vram: &mut [u16], xr: &[u16], n: u64
     let registers = ranges::registers_in_range(s);
     let refusal = refusals::lent_refusal(s, registers, vram.len(), xr.len());
     if refusal != 0 {
-        return BlitAnswer { refusal, count: 0 };
+        return BlitAnswer {
+            refusal,
+            mask: 0,
+            count: 0,
+        };
     }
-    let count = n - queue::run(s, vram, n);
-    BlitAnswer { refusal: 0, count }
+    let done = queue::run(s, vram, n);
+    let mask = words::low_byte(done.mask);
+    BlitAnswer {
+        refusal: 0,
+        mask,
+        count: done.count,
+    }
 }
 
 // A timer tick.

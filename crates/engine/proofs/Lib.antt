@@ -1,3 +1,2 @@
 -- Laws of one word and of runs of words that belong to no one function.
-pub mod MaskBits
 pub mod Runs

@@ -4,15 +4,15 @@ use xosera::Engine;
 use xosera::VramAddr;
 ghost use mathlib.Core.Path.{_≡_};
 ghost use mathlib.Core.Bool.{true, false, cond};
-ghost use Prim.Native.Nat.{_+_};
+ghost use Prim.Native.Nat.{_≤_};
 ghost use lib.ListN.{length};
 ghost use Rattle.xosera.specs.Words.{wrap};
 ghost use Rattle.xosera.specs.Memories.{isVramLength};
 ghost use Rattle.xosera.specs.Blitter.{idle, launched, isConstant, fetched, sourced, lastWord, firstMask, lastMask};
-ghost use Rattle.xosera.specs.Blitter.{testMask, writeMask, drawn, lastStep, nextSource, nextDest, next};
+ghost use Rattle.xosera.specs.Blitter.{testMask, writeMask, drawing, lastStep, nextSource, nextDest, next, engineLeft};
 ghost use Rattle.xosera.specs.Ranges.{Running};
 ghost use Rattle.words.specs.Spread.{spread};
-ghost use Rattle.engine.specs.Progress.{Going, RanTo};
+ghost use Rattle.engine.specs.Progress.{DrewOne, Going, RanTo};
 
 // An idle engine.
 pub fn idle_engine() -> Engine
@@ -113,13 +113,6 @@ fn write_bits(e: Engine, s: u16) -> u16
     words::spread(first_mask(e) & last_mask(e)) & test_bits(e, s)
 }
 
-// The nibbles that a step writes.
-pub fn write_mask(e: Engine, s: u16) -> u16
-    ensures { λ r. ⌜ r ≡ writeMask e s ⌝ }
-{
-    words::gathered(write_bits(e, s))
-}
-
 // The word that a step takes: the VRAM word at the source address, or none of a constant.
 fn fetch(e: Engine, vram: &[u16]) -> u16
     requires { ⌜ isVramLength (length (now vram)) ≡ true ⌝ }
@@ -143,10 +136,25 @@ fn source(e: Engine, word: u16) -> u16
     }
 }
 
-// One word drawn; the answer is the word taken.
-pub fn draw(e: Engine, vram: &mut [u16]) -> u16
+// The nibbles that the next step writes.
+pub fn next_mask(e: Engine, vram: &[u16]) -> u16
     requires { ⌜ isVramLength (length (now vram)) ≡ true ⌝ }
-    ensures { λ r. ⌜ (r ≡ fetched e (now (vram .entry))) × (now (vram .exit) ≡ drawn e (now (vram .entry))) ⌝ }
+    ensures { λ r. ⌜ r ≡ drawing e (fetched e (now (vram .entry))) .mask ⌝ }
+{
+    let word = fetch(e, vram);
+    words::gathered(write_bits(e, source(e, word)))
+}
+
+// What drawing a word came to: the word taken, and the nibbles written, as a spread mask.
+pub struct Drawn {
+    pub word: u16,
+    pub bits: u16,
+}
+
+// One word drawn.
+pub fn draw(e: Engine, vram: &mut [u16]) -> Drawn
+    requires { ⌜ isVramLength (length (now vram)) ≡ true ⌝ }
+    ensures { λ r. ⌜ DrewOne e (now (vram .entry)) r (now (vram .exit)) ⌝ }
 {
     let word = fetch(e, vram);
     let s = source(e, word);
@@ -154,7 +162,7 @@ pub fn draw(e: Engine, vram: &mut [u16]) -> u16
     let value = words::combined(s, e.regs.andc, e.regs.xor);
     let at = VramAddr(e.regs.dstd);
     vram::store_bits(vram, at, bits, value);
-    word
+    Drawn { word, bits }
 }
 
 // The source goes up by 1 unless it is a constant.
@@ -238,8 +246,8 @@ fn run_inside(e: Engine, vram: &mut [u16], n: u64) -> Ran
         if last_word(at) {
             break;
         }
-        let word = draw(at, vram);
-        at = advance(at, word);
+        let drawn = draw(at, vram);
+        at = advance(at, drawn.word);
         rest = rest - 1;
     }
     Ran {
@@ -264,7 +272,7 @@ pub fn run_blit(e: Engine, vram: &mut [u16], n: u64) -> Ran
         if rest == 0 {
             break;
         }
-        let word = draw(at, vram);
+        let drawn = draw(at, vram);
         rest = rest - 1;
         if last_step(at) {
             return Ran {
@@ -273,11 +281,20 @@ pub fn run_blit(e: Engine, vram: &mut [u16], n: u64) -> Ran
                 over: true,
             };
         }
-        at = advance(at, word);
+        at = advance(at, drawn.word);
     }
     Ran {
         engine: at,
         rest,
         over: false,
     }
+}
+
+// The words left in a running blit, at most 32,768 lines of 65,536.
+pub fn words_left(e: Engine) -> u64
+    requires { ⌜ Running e ⌝ }
+    ensures { λ r. ⌜ (r ≡ engineLeft e) × (r ≤ 0x80000000) ⌝ }
+{
+    let whole = (e.regs.words as u64) + 1;
+    (whole - e.word as u64) + (e.regs.lines as u64 - e.line as u64) * whole
 }

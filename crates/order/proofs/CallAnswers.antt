@@ -13,7 +13,7 @@ use Rattle.xosera.specs.Adapter.{Side, Adapter, stateOf}
 use Rattle.xosera.specs.HostBytes.{shown, flagsOf, highByte, lowByte}
 use Rattle.xosera.specs.Events.{Call, write, read, tick, frameEnd, line, call}
 use Rattle.xosera.specs.Refusals.{refusal}
-use Rattle.xosera.specs.Calls.{given, answer}
+use Rattle.xosera.specs.Calls.{given, wrote, answer}
 use Rattle.xosera.proofs.Branches.{cond-same}
 use Rattle.xosera.proofs.Tables.{Each, _and_, getD-each}
 use Rattle.xosera.proofs.RangeLaws.{in-range-status}
@@ -88,3 +88,8 @@ module _ {full : Bool} (a r : Adapter) (f : Finishes full a r) where
       go : (b : Bool) → agreedWork full c (cond b (given r (call c)) 0) ≡ agreedWork full c (cond b (given a (call c)) 0)
       go true = given-alike c
       go false = refl
+
+  -- A call's mask is its own store's, and the store is the same.
+  pub mask-alike : (c : Call) → refusal r (call c) ≡ refusal a (call c) → answer r (call c) .mask ≡ answer a (call c) .mask
+  unfolding answer wrote
+  mask-alike c e = rw (e, f .side)

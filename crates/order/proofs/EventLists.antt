@@ -21,7 +21,7 @@ use Rattle.order.proofs.Fit.{fit-idle}
 use Rattle.order.proofs.Finish.{Finishes, OnCourse, steps-on-course}
 use Rattle.order.proofs.CallsApart.{Apart}
 use Rattle.order.proofs.CallAcross.{call-on-course, call-refused-alike}
-use Rattle.order.proofs.CallAnswers.{status-alike, value-alike}
+use Rattle.order.proofs.CallAnswers.{status-alike, value-alike, mask-alike}
 
 -- With no work left the adapter and its reference are the same, but for status bit 6.
 none-left-alike : {full : Bool} (a r : Adapter) → Finishes full a r → wordsLeft a ≤ 0 → butBit6 a ≡ butBit6 r
@@ -50,7 +50,11 @@ module _ {full : Bool} {reads writes : ℕ → Bool} where
   unfolding answer answered
   call-answer n a r c h apart =
       let e : refusal r (call c) ≡ refusal a (call c) = call-refused-alike a r c h apart in
-      λ i. record { refusal = sym e i; value = sym (value-alike a r (h .finishes) c e) i }
+      λ i. record {
+        refusal = sym e i;
+        value = sym (value-alike a r (h .finishes) c e) i;
+        mask = sym (mask-alike a r (h .finishes) c e) i;
+      }
 
   pub in-any-order : (es : List Event) (a r : Adapter) → OnCourse full reads writes (stepsIn es) a r → AllCalls (Apart full reads writes) a es →
       Alike (agreedWork full) a es r (withoutSteps es)

@@ -7,7 +7,7 @@ use Rattle.xosera.specs.Memories.{place, word, Store}
 use Rattle.xosera.specs.Adapter.{Adapter}
 use Rattle.xosera.specs.Blitter.{fetched, drawing, drawn, stepped, steps}
 use Rattle.xosera.proofs.Branches.{or-eq-false-iff}
-use Rattle.xosera.proofs.StepCases.{step-cases}
+use Rattle.xosera.proofs.StepCases.{step-cases, running-mask}
 use Rattle.xosera.proofs.RangeLaws.{stepped-vram-length}
 use Rattle.order.specs.Order.{writesNow, blitWrites}
 use Rattle.order.proofs.StoreLaws.{touches, stored-word}
@@ -18,7 +18,7 @@ nextStore a = drawing (a .engine) (fetched (a .engine) (a .vram))
 
 pub running-writes : (a : Adapter) (w : ℕ) → isSet (a .engine .running) ≡ true → writesNow a w ≡ touches (nextStore a) (a .vram) w
 unfolding writesNow touches drawing
-running-writes a w on = cc on
+running-writes a w on = rw (running-mask a on)
 
 -- Every address keeps its place.
 pub stepped-place : (a : Adapter) (x : ℕ) → place (stepped a .vram) x ≡ place (a .vram) x

@@ -10,7 +10,7 @@ use Rattle.xosera.specs.declared.BlitRegs.{BlitRegs}
 use Rattle.xosera.specs.State.{isSet}
 use Rattle.xosera.specs.Memories.{place, word, Store, stored}
 use Rattle.xosera.specs.Adapter.{Adapter}
-use Rattle.xosera.specs.Blitter.{idle, launched, isConstant, fetched, drawing, drawn, lastStep, wordDrawn, succeeding, blitEnded, stepped, steps}
+use Rattle.xosera.specs.Blitter.{idle, launched, isConstant, fetched, drawing, drawn, lastStep, wordDrawn, succeeding, blitEnded, stepped, steps, stepMask}
 use Rattle.xosera.proofs.Branches.{clash, not-passed, and-both, or-eq-false-iff}
 use Rattle.xosera.proofs.StepCases.{stepped-idle, stepped-last, stepped-on, step-cases}
 use Rattle.order.specs.Order.{readsNow, writesNow, blitReads, blitWrites}
@@ -101,7 +101,7 @@ module _ (k : Store) (a b : Adapter) (beside : Beside k a b) (free : Free k a) w
   reads-now-same w = cc (beside .engine, beside .vram, stored-place k (a .vram) (a .engine .regs .srcs))
 
   writes-now-same : (w : ℕ) → writesNow b w ≡ writesNow a w
-  unfolding writesNow
+  unfolding writesNow stepMask
   writes-now-same w = go (isSet (a .engine .running)) refl
     where
       go : (r : Bool) → isSet (a .engine .running) ≡ r → writesNow b w ≡ writesNow a w

@@ -107,7 +107,8 @@ claimWords =
     ∷ (agreedWork true (read 0 false) 0xFF ∷ agreedWork true (read 0 true) 0xFF ∷ agreedWork true (read 1 true) 0xFF ∷ agreedWork true (read 1 false) 0xFF
     ∷ agreedWork true (write 0 true 0) 0xFF ∷ agreedWork true tick 0xFF ∷ agreedWork true frameEnd 0xFF ∷ agreedWork false (read 0 false) 0xFF ∷ []
     gives 0x9F ∷ 0xFF ∷ 0xBF ∷ 0xFF ∷ 0xFF ∷ 0xFF ∷ 0xFF ∷ 0xDF ∷ [])
-    ∷ (answered agreed begun (write 16 true 0) .refusal ∷ answered agreed begun (read 4 true) .value ∷ [] gives 4 ∷ 0x4A ∷ [])
+    ∷ (answered agreed begun (write 16 true 0) .refusal ∷ answered agreed begun (read 4 true) .value ∷ answered agreed begun (write 10 true 0) .mask ∷ []
+    gives 4 ∷ 0x4A ∷ 0xF ∷ [])
     -- The words that the blit reads and writes; a constant reads none, and a word that is held back is not written.
     ∷ (map (λ (w : ℕ). cond (blitReads 6 begun w) 1 0) (0x0F ∷ 0x10 ∷ 0x15 ∷ 0x16 ∷ []) gives 0 ∷ 1 ∷ 1 ∷ 0 ∷ [])
     ∷ (map (λ (w : ℕ). cond (blitWrites 6 begun w) 1 0) (0x1F ∷ 0x20 ∷ 0x25 ∷ 0x26 ∷ []) gives 0 ∷ 1 ∷ 1 ∷ 0 ∷ [])

@@ -10,7 +10,7 @@ use Rattle.xosera.specs.Words.{wrap, withoutBit}
 use Rattle.xosera.specs.Memories.{place}
 use Rattle.xosera.specs.Adapter.{Adapter}
 use Rattle.xosera.specs.HostBytes.{wordOf}
-use Rattle.xosera.specs.Blitter.{isConstant, fetched, drawing, stepped}
+use Rattle.xosera.specs.Blitter.{isConstant, stepped, stepMask}
 use Rattle.xosera.specs.Events.{Call, Event, Answer, write, read, tick, frameEnd, line, call, step, run}
 use Rattle.xosera.specs.Refusals.{refusal}
 use Rattle.xosera.specs.Calls.{after, answer}
@@ -34,11 +34,9 @@ withoutSteps (run n ∷ es) = withoutSteps es
 unfoldable pub readsNow : Adapter → ℕ → Bool
 readsNow a w = isSet (a .engine .running) && not (isConstant (a .engine)) && eqb (place (a .vram) (a .engine .regs .srcs)) w
 
--- Whether the next blit step writes a nibble of a VRAM word, also with the value it had.
+-- Whether the next blit step writes a nibble of a VRAM word, also with the value it had: its mask says so.
 unfoldable pub writesNow : Adapter → ℕ → Bool
-writesNow a w =
-    isSet (a .engine .running) && not (eqb (drawing (a .engine) (fetched (a .engine) (a .vram)) .mask) 0)
-    && eqb (place (a .vram) (a .engine .regs .dstd)) w
+writesNow a w = not (eqb (stepMask a) 0) && eqb (place (a .vram) (a .engine .regs .dstd)) w
 
 -- The words that a blit reads, and those that it writes, found by doing n steps alone. Words are told apart by their
 -- address modulo the VRAM length.
@@ -125,9 +123,12 @@ agreed tick v = v
 agreed frameEnd v = v
 agreed line v = 0
 
--- A call's answer, its refusal included, by the bits that must agree; and the answers of a list's calls.
+-- An answer, its refusal and mask included, by the bits that must agree; and the answers of a list's calls.
+abbrev pub inAgreed : (Call → ℕ → ℕ) → Call → Answer → Answer
+inAgreed agree c told = record { refusal = told .refusal; value = agree c (told .value); mask = told .mask }
+
 unfoldable pub answered : (Call → ℕ → ℕ) → Adapter → Call → Answer
-answered agree a c = record { refusal = answer a (call c) .refusal; value = agree c (answer a (call c) .value) }
+answered agree a c = inAgreed agree c (answer a (call c))
 
 abbrev pub answers : (Call → ℕ → ℕ) → Adapter → List Event → List Answer
 answers agree = eachCall (answered agree)

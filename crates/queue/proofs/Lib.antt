@@ -3,3 +3,4 @@ pub mod Starts
 pub mod OneBlitLaws
 pub mod TwoBlits
 pub mod OneStep
+pub mod WholeRuns

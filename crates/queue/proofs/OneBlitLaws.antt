@@ -10,9 +10,9 @@ use Rattle.xosera.specs.declared.Engine.{Engine}
 use Rattle.xosera.specs.State.{State, isSet}
 use Rattle.xosera.specs.Fields.{blitDone}
 use Rattle.xosera.specs.Adapter.{stateOf, adapter}
-use Rattle.xosera.specs.Blitter.{succeeding, blitEnded, wordsLeft}
+use Rattle.xosera.specs.Blitter.{succeeding, blitEnded}
 use Rattle.xosera.specs.Ranges.{inRange}
-use Rattle.xosera.proofs.EngineLaws.{running-in-range, succeeding-in-range, succeeding-left}
+use Rattle.xosera.proofs.EngineLaws.{running-in-range, succeeding-in-range}
 use Rattle.xosera.proofs.RangeLaws.{in-range-host, in-range-status, in-range-queue, in-range-unqueued, parts-in-range, status-raised}
 use Rattle.engine.specs.Progress.{Going, Ended}
 use Rattle.engine_words.specs.Held.{withEngine}
@@ -26,7 +26,6 @@ module _ (s : State) (v : List ℕ) (n : ℕ) (r : inRange s ≡ true) where
   pub one-idle : isSet (s .engine .running) ≡ false → OneBlit s v n s v n
   one-idle h = record {
     reached = λ x. refl;
-    words-left = λ x. refl;
     fewer = omega arith;
     in-range = r;
     vram-length = refl;
@@ -36,10 +35,8 @@ module _ (s : State) (v : List ℕ) (n : ℕ) (r : inRange s ≡ true) where
 
   -- The state at a blit's end is the same with any memories.
   pub one-over : {u : List ℕ} {rest : ℕ} → Ended (s .engine) v n u rest → OneBlit s v n (stateOf (blitEnded (adapter s [] []))) u rest
-  unfolding wordsLeft
   one-over {u} {rest} d = record {
     reached = λ x. d .reached (adapter s v x);
-    words-left = λ x. omega (arith, d .words-left, succeeding-left (isSet (s .queued)) (s .blit));
     fewer = omega (arith, d .words-left);
     in-range =
         parts-in-range _ (in-range-host s r) (status-raised blitDone (s .status) (omega arith) (in-range-status s r)) (omega arith)
@@ -50,10 +47,8 @@ module _ (s : State) (v : List ℕ) (n : ℕ) (r : inRange s ≡ true) where
   }
 
   pub one-going : isSet (s .engine .running) ≡ true → {e : Engine} {u : List ℕ} → Going (s .engine) v n e u 0 → OneBlit s v n (withEngine s e) u 0
-  unfolding wordsLeft
   one-going on {e} {u} g = record {
     reached = λ x. g .reached (adapter s v x);
-    words-left = λ x. omega (arith, g .words-left);
     fewer = omega arith;
     in-range =
         parts-in-range _ (in-range-host s r) (in-range-status s r)

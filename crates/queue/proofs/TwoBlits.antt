@@ -2,20 +2,19 @@
 use mathlib.Core.Path.{_≡_, refl, sym, _∙_}
 use mathlib.Core.Bool.{false}
 use mathlib.Core.List.{List}
-use Prim.Native.Nat.{ℕ, _+_, _-_, _≤_, min}
+use Prim.Native.Nat.{ℕ}
 use native.Mathlib.Omega.{arith}
 use native.Mathlib.Decide.{ℕ-discrete}
 use Rattle.xosera.specs.State.{State, isSet}
 use Rattle.xosera.specs.Adapter.{adapter}
-use Rattle.xosera.specs.Blitter.{steps, wordsLeft}
-use Rattle.xosera.proofs.StepLaws.{steps-idle, idle-none-left}
+use Rattle.xosera.specs.Blitter.{steps}
+use Rattle.xosera.proofs.StepLaws.{steps-idle}
 use Rattle.queue.specs.OneBlit.{OneBlit}
 
 -- With no rest a second run has nothing to do.
 pub none-over : {s : State} {v : List ℕ} {n : ℕ} {t : State} {u : List ℕ} {k : ℕ} → OneBlit s v n t u k → k ≡ 0 → OneBlit t u k t u k
 none-over one z = record {
   reached = λ x. refl;
-  words-left = λ x. refl;
   fewer = omega arith;
   in-range = one .in-range;
   vram-length = refl;
@@ -39,16 +38,3 @@ module _ {s : State} {v : List ℕ} {n : ℕ} {t : State} {u : List ℕ} {k : �
       rest : Dec (l ≡ 0) → adapter f w x ≡ steps l (adapter f w x)
       rest (yes z) = rw z
       rest (no h) = sym (steps-idle l (adapter f w x) (over h))
-
-  pub run-fewer : l ≤ n
-  run-fewer = omega (arith, one .fewer, two .fewer)
-
-  pub run-count : n - l ≡ min n (wordsLeft (adapter s v x))
-  run-count = count (ℕ-discrete l 0)
-    where
-      total : wordsLeft (adapter s v x) + l ≡ wordsLeft (adapter f w x) + n
-      total = omega (arith, one .words-left x, two .words-left x)
-
-      count : Dec (l ≡ 0) → n - l ≡ min n (wordsLeft (adapter s v x))
-      count (yes z) = omega (arith, total)
-      count (no h) = omega (arith, total, idle-none-left (adapter f w x) (two .in-range) (over h), one .fewer, two .fewer)

@@ -8,7 +8,7 @@ use lib.ListN.{length, drop}
 use Rattle.xosera.specs.declared.SaveAnswer.{SaveAnswer}
 use Rattle.xosera.specs.declared.LoadAnswer.{LoadAnswer}
 use Rattle.xosera.specs.Adapter.{Adapter}
-use Rattle.xosera.specs.Events.{Answer}
+use Rattle.xosera.specs.Events.{Answer, maskless}
 use Rattle.xosera.specs.Refusals.{_when_, lentTests, first}
 use Rattle.saved_file.specs.SavedFile.{saved, held, isSaved}
 
@@ -34,7 +34,7 @@ loadRefusal a file = first (lentTests a ((8 when notSaved file) ∷ (9 when othe
 
 -- "A save reports the file's length …; a refused save reports 0".
 unfoldable pub saveAnswer : Adapter → List ℕ → Answer
-saveAnswer a room = record { refusal = saveRefusal a room; value = cond (eqb (saveRefusal a room) 0) (length (saved a)) 0 }
+saveAnswer a room = maskless (saveRefusal a room) (cond (eqb (saveRefusal a room) 0) (length (saved a)) 0)
 
 -- "… and leaves the room behind it untouched".
 unfoldable pub roomAfter : Adapter → List ℕ → List ℕ
@@ -42,7 +42,7 @@ roomAfter a room = cond (eqb (saveRefusal a room) 0) (saved a ++ drop (length (s
 
 -- A load answers its refusal alone.
 unfoldable pub loadAnswer : Adapter → List ℕ → Answer
-loadAnswer a file = record { refusal = loadRefusal a file; value = 0 }
+loadAnswer a file = maskless (loadRefusal a file) 0
 
 -- "Loading what was saved gives that adapter"; "a refused load gives back the state it was handed".
 unfoldable pub loaded : Adapter → List ℕ → Adapter
@@ -50,10 +50,10 @@ loaded a file = cond (eqb (loadRefusal a file) 0) (held file) a
 
 -- The answer that each returned struct stands for.
 abbrev pub ofSave : SaveAnswer → Answer
-ofSave r = record { refusal = r .refusal; value = r .length }
+ofSave r = maskless (r .refusal) (r .length)
 
 abbrev pub ofLoad : LoadAnswer → Answer
-ofLoad r = record { refusal = r .refusal; value = 0 }
+ofLoad r = maskless (r .refusal) 0
 
 -- A save of adapter a to a room answers so and leaves the room so. State and memories are lent for reading.
 pub record Saves (a : Adapter) (room : List ℕ) (told : Answer) (after : List ℕ) : Type 0 where

@@ -9,6 +9,7 @@ use lib.Dec.{eqb}
 use lib.ListN.{length, drop}
 use Rattle.xosera.specs.State.{stateAt}
 use Rattle.xosera.specs.Adapter.{Adapter, adapterAt}
+use Rattle.xosera.specs.Events.{maskless}
 use Rattle.xosera.specs.Refusals.{Fit, first}
 use Rattle.xosera.proofs.Branches.{cond-yes, cond-no}
 use Rattle.refusals.specs.Tested.{lentRefusal}
@@ -20,37 +21,37 @@ use Rattle.saved_file.proofs.SavedLaws.{saved-length, saved-facts}
 use Rattle.saved_file.proofs.SavedAdapters.{save-tests, load-tests, room-enough}
 
 module _ (a : Adapter) (room : List ℕ) where
-  pub save-refused : (r : ℕ) → r ≡ saveRefusal a room → (r ≡ 0 → ⊥) → Saves a room (record { refusal = r; value = 0 }) room
+  pub save-refused : (r : ℕ) → r ≡ saveRefusal a room → (r ≡ 0 → ⊥) → Saves a room (maskless r 0) room
   unfolding saveAnswer roomAfter
   save-refused r h n =
       let z : eqb (saveRefusal a room) 0 ≡ false = ne-eqb (saveRefusal a room) 0 (λ k. n (h ∙ k)) in
       record {
-        answers = λ i. record { refusal = h i; value = sym (cond-no (length (saved a)) 0 z) i };
+        answers = λ i. maskless (h i) (sym (cond-no (length (saved a)) 0 z) i);
         leaves = sym (cond-no (saved a ++ drop (length (saved a)) room) room z);
       }
 
   pub save-done : (n : ℕ) (after : List ℕ) → saveRefusal a room ≡ 0 → length (saved a) ≡ n → after ≡ saved a ++ drop n room
-      → Saves a room (record { refusal = 0; value = n }) after
+      → Saves a room (maskless 0 n) after
   unfolding saveAnswer roomAfter
   save-done n after h l e =
       let z : eqb (saveRefusal a room) 0 ≡ true = eq-eqb (saveRefusal a room) 0 h in
       record {
-        answers = λ i. record { refusal = sym h i; value = (sym l ∙ sym (cond-yes (length (saved a)) 0 z)) i };
+        answers = λ i. maskless (sym h i) ((sym l ∙ sym (cond-yes (length (saved a)) 0 z)) i);
         leaves = e ∙ ap (λ (m : ℕ). saved a ++ drop m room) (sym l) ∙ sym (cond-yes (saved a ++ drop (length (saved a)) room) room z);
       }
 
 module _ (a : Adapter) (file : List ℕ) where
-  pub load-refused : (r : ℕ) → r ≡ loadRefusal a file → (r ≡ 0 → ⊥) → Loads a file (record { refusal = r; value = 0 }) a
+  pub load-refused : (r : ℕ) → r ≡ loadRefusal a file → (r ≡ 0 → ⊥) → Loads a file (maskless r 0) a
   unfolding loadAnswer loaded
   load-refused r h n =
       let z : eqb (loadRefusal a file) 0 ≡ false = ne-eqb (loadRefusal a file) 0 (λ k. n (h ∙ k)) in
-      record { answers = λ i. record { refusal = h i; value = 0 }; leaves = sym (cond-no (held file) a z) }
+      record { answers = λ i. maskless (h i) 0; leaves = sym (cond-no (held file) a z) }
 
-  pub load-done : (b : Adapter) → loadRefusal a file ≡ 0 → b ≡ held file → Loads a file (record { refusal = 0; value = 0 }) b
+  pub load-done : (b : Adapter) → loadRefusal a file ≡ 0 → b ≡ held file → Loads a file (maskless 0 0) b
   unfolding loadAnswer loaded
   load-done b h e =
       let z : eqb (loadRefusal a file) 0 ≡ true = eq-eqb (loadRefusal a file) 0 h in
-      record { answers = λ i. record { refusal = sym h i; value = 0 }; leaves = e ∙ sym (cond-yes (held file) a z) }
+      record { answers = λ i. maskless (sym h i) 0; leaves = e ∙ sym (cond-yes (held file) a z) }
 
 -- The refusals in their order, with the first three as the code has them.
 module _ (ws v x : List ℕ) {lent : ℕ} (h : lent ≡ lentRefusal (length v) (length x) (stateAt ws)) where

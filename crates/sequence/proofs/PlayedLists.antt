@@ -24,23 +24,25 @@ events-none (k ∷ ks) [] (suc i) h = refl
 events-none (k ∷ ks) (n ∷ ns) zero h = absurd (omega arith)
 events-none (k ∷ ks) (n ∷ ns) (suc i) h = events-none ks ns i (omega arith)
 
-pub answers-more : (rs vs : List ℕ) (i r v : ℕ) → i < length rs → i < length vs
-    → take (suc i) (answersOf (set rs i r) (set vs i v)) ≡ take i (answersOf rs vs) ++ record { refusal = r; value = v } ∷ []
+pub answers-more : (rs vs ms : List ℕ) (i r v m : ℕ) → i < length rs → i < length vs → i < length ms
+    → take (suc i) (answersOf (set rs i r) (set vs i v) (set ms i m)) ≡ take i (answersOf rs vs ms) ++ record { refusal = r; value = v; mask = m } ∷ []
 unfolding answersOf
-answers-more [] vs i r v h k = absurd (omega arith)
-answers-more (x ∷ rs) [] i r v h k = absurd (omega arith)
-answers-more (x ∷ rs) (y ∷ vs) zero r v h k = refl
-answers-more (x ∷ rs) (y ∷ vs) (suc i) r v h k =
-    ap (λ (l : List Answer). record { refusal = x; value = y } ∷ l) (answers-more rs vs i r v (omega arith) (omega arith))
+answers-more [] vs ms i r v m hr hv hm = absurd (omega arith)
+answers-more (x ∷ rs) [] ms i r v m hr hv hm = absurd (omega arith)
+answers-more (x ∷ rs) (y ∷ vs) [] i r v m hr hv hm = absurd (omega arith)
+answers-more (x ∷ rs) (y ∷ vs) (z ∷ ms) zero r v m hr hv hm = refl
+answers-more (x ∷ rs) (y ∷ vs) (z ∷ ms) (suc i) r v m hr hv hm =
+    ap (λ (l : List Answer). record { refusal = x; value = y; mask = z } ∷ l) (answers-more rs vs ms i r v m (omega arith) (omega arith) (omega arith))
 
-pub answers-all : (rs vs : List ℕ) (i : ℕ) → length rs ≤ i → take i (answersOf rs vs) ≡ answersOf rs vs
+pub answers-all : (rs vs ms : List ℕ) (i : ℕ) → length rs ≤ i → take i (answersOf rs vs ms) ≡ answersOf rs vs ms
 unfolding answersOf
-answers-all [] vs zero h = refl
-answers-all [] vs (suc i) h = refl
-answers-all (x ∷ rs) [] zero h = refl
-answers-all (x ∷ rs) [] (suc i) h = refl
-answers-all (x ∷ rs) (y ∷ vs) zero h = absurd (omega arith)
-answers-all (x ∷ rs) (y ∷ vs) (suc i) h = ap (λ (l : List Answer). record { refusal = x; value = y } ∷ l) (answers-all rs vs i (omega arith))
+answers-all [] vs ms zero h = refl
+answers-all [] vs ms (suc i) h = refl
+answers-all (x ∷ rs) vs ms zero h = absurd (omega arith)
+answers-all (x ∷ rs) [] ms (suc i) h = refl
+answers-all (x ∷ rs) (y ∷ vs) [] (suc i) h = refl
+answers-all (x ∷ rs) (y ∷ vs) (z ∷ ms) (suc i) h =
+    ap (λ (l : List Answer). record { refusal = x; value = y; mask = z } ∷ l) (answers-all rs vs ms i (omega arith))
 
 -- A kind that is none of the first eight is a run.
 pub else-run : (k n : ℕ) → (k < 8 → ⊥) → run n ≡ eventOf k n

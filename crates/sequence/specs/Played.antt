@@ -9,11 +9,11 @@ use Rattle.sequence.specs.declared.Outcome.{Outcome}
 use Rattle.xosera.specs.Adapter.{Adapter}
 use Rattle.xosera.specs.Events.{Event, Answer, write, read, tick, frameEnd, line, call, step, run}
 use Rattle.xosera.specs.Sequences.{afterAll, allAnswers}
-use Rattle.order.specs.Order.{agreed}
+use Rattle.order.specs.Order.{agreed, inAgreed}
 
 -- The answer that an outcome stands for.
 abbrev pub ofOutcome : Outcome → Answer
-ofOutcome r = record { refusal = r .refusal; value = r .value }
+ofOutcome r = record { refusal = r .refusal; value = r .value; mask = r .mask }
 
 -- 0 and 1 write a byte, even and odd; 2 and 3 read one; 4 a timer tick; 5 a frame end; 6 the line question; 7 a blit step;
 -- from 8 on a run. An access's argument is register + 256 x byte, a run's is n.
@@ -31,17 +31,18 @@ eventsOf [] args = []
 eventsOf (k ∷ kinds) [] = []
 eventsOf (k ∷ kinds) (n ∷ args) = eventOf k n ∷ eventsOf kinds args
 
--- The answers as two lists of numbers.
-unfoldable pub answersOf : List ℕ → List ℕ → List Answer
-answersOf [] values = []
-answersOf (r ∷ refusals) [] = []
-answersOf (r ∷ refusals) (v ∷ values) = record { refusal = r; value = v } ∷ answersOf refusals values
+-- The answers as three lists of numbers.
+unfoldable pub answersOf : List ℕ → List ℕ → List ℕ → List Answer
+answersOf [] values masks = []
+answersOf (r ∷ refusals) [] masks = []
+answersOf (r ∷ refusals) (v ∷ values) [] = []
+answersOf (r ∷ refusals) (v ∷ values) (m ∷ masks) = record { refusal = r; value = v; mask = m } ∷ answersOf refusals values masks
 
 -- Of the answers to a list of events those of the calls, but for the bits that may differ (document 01, "The order of things").
 unfoldable pub agreedAnswers : List Event → List Answer → List Answer
 agreedAnswers [] told = []
 agreedAnswers (e ∷ es) [] = []
-agreedAnswers (call c ∷ es) (x ∷ told) = record { refusal = x .refusal; value = agreed c (x .value) } ∷ agreedAnswers es told
+agreedAnswers (call c ∷ es) (x ∷ told) = inAgreed agreed c x ∷ agreedAnswers es told
 agreedAnswers (step ∷ es) (x ∷ told) = agreedAnswers es told
 agreedAnswers (run n ∷ es) (x ∷ told) = agreedAnswers es told
 

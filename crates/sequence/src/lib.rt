@@ -12,6 +12,7 @@ ghost use Rattle.sequence.specs.Played.{ofOutcome, eventOf, eventsOf, an
 // What one event answered.
 pub struct Outcome {
     pub refusal: u8,
+    pub mask: u8,
     pub value: u64,
 }
 
@@ -32,6 +33,7 @@ fn write(
     let a = adapter::write_byte(s, vram, xr, reg, odd, byte);
     Outcome {
         refusal: a.refusal,
+        mask: a.mask,
         value: 0,
     }
 }
@@ -53,6 +55,7 @@ fn read(s: &mut [u16; STATE_WORDS], vram: &[u16], xr: &[u16], odd: bool, arg: u6
     let value = wide(a.byte);
     Outcome {
         refusal: a.refusal,
+        mask: 0,
         value,
     }
 }
@@ -64,11 +67,13 @@ fn line(s: &[u16; STATE_WORDS]) -> Outcome
     if a.up {
         return Outcome {
             refusal: a.refusal,
+            mask: 0,
             value: 1,
         };
     }
     Outcome {
         refusal: a.refusal,
+        mask: 0,
         value: 0,
     }
 }
@@ -79,6 +84,7 @@ fn tick(s: &mut [u16; STATE_WORDS]) -> Outcome
     let a = adapter::timer_tick(s);
     Outcome {
         refusal: a.refusal,
+        mask: 0,
         value: 0,
     }
 }
@@ -89,6 +95,7 @@ fn frame_end(s: &mut [u16; STATE_WORDS]) -> Outcome
     let a = adapter::frame_end(s);
     Outcome {
         refusal: a.refusal,
+        mask: 0,
         value: 0,
     }
 }
@@ -102,6 +109,7 @@ fn step(s: &mut [u16; STATE_WORDS], vram: &mut [u16], xr: &[u16]) -> Outcome
     let a = adapter::blit_step(s, vram, xr);
     Outcome {
         refusal: a.refusal,
+        mask: a.mask,
         value: a.count,
     }
 }
@@ -115,6 +123,7 @@ fn run(s: &mut [u16; STATE_WORDS], vram: &mut [u16], xr: &[u16], n: u64) -> Outc
     let a = adapter::blit_run(s, vram, xr, n);
     Outcome {
         refusal: a.refusal,
+        mask: a.mask,
         value: a.count,
     }
 }
@@ -145,7 +154,7 @@ pub fn apply(
     }
 }
 
-// A list of events, one after another; each one's answer goes to its place in the two lists of answers.
+// A list of events, one after another; each one's answer goes to its place in the three lists of answers.
 pub fn play(
     s: &mut [u16; STATE_WORDS],
     vram: &mut [u16],
@@ -154,13 +163,16 @@ pub fn play(
     args: &[u64],
     refusals: &mut [u8],
     values: &mut [u64],
+    masks: &mut [u8],
 )
     requires { ⌜ length (now args) ≡ length (now kinds) ⌝ }
     requires { ⌜ length (now refusals) ≡ length (now kinds) ⌝ }
     requires { ⌜ length (now values) ≡ length (now kinds) ⌝ }
+    requires { ⌜ length (now masks) ≡ length (now kinds) ⌝ }
     ensures { λ _. ⌜
         Played (adapterAt (now (s .entry)) (now (vram .entry)) (now (xr .entry)))
-        (eventsOf (now (kinds .entry)) (now (args .entry))) (answersOf (now (refusals .exit)) (now (values .exit)))
+        (eventsOf (now (kinds .entry)) (now (args .entry)))
+        (answersOf (now (refusals .exit)) (now (values .exit)) (now (masks .exit)))
         (adapterAt (now (s .exit)) (now (vram .exit)) (now (xr .exit)))
         ⌝ }
 {
@@ -169,6 +181,7 @@ pub fn play(
         let done = apply(s, vram, xr, kinds[i], args[i]);
         refusals[i] = done.refusal;
         values[i] = done.value;
+        masks[i] = done.mask;
         i += 1;
     }
 }

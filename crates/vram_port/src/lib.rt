@@ -11,7 +11,7 @@ ghost use mathlib.Core.Bool.{true};
 ghost use mathlib.Core.List.{List};
 ghost use Prim.Native.Nat.{ℕ};
 ghost use lib.ListN.{length};
-ghost use Rattle.xosera.specs.State.{stateWords};
+ghost use Rattle.xosera.specs.State.{stateWords, stateAt};
 ghost use Rattle.xosera.specs.Memories.{isVramLength};
 ghost use Rattle.xosera.specs.Adapter.{Side};
 ghost use Rattle.xosera.specs.HostBytes.{vramLoad, writeData, readData};
@@ -41,17 +41,19 @@ pub fn read(s: &mut [u16], vram: &[u16])
     load(s, vram, a);
 }
 
-// An odd write: a store at XM_WR_ADDR under the nibble mask, and XM_WR_INCR added to the address.
-pub fn write(s: &mut [u16], vram: &mut [u16], w: u16)
+// An odd write: a store at XM_WR_ADDR under the nibble mask, and XM_WR_INCR added to the address. The answer is the mask.
+pub fn write(s: &mut [u16], vram: &mut [u16], w: u16) -> u16
     requires { ⌜ length (now s) ≡ stateWords ⌝ }
     requires { ⌜ isVramLength (length (now vram)) ≡ true ⌝ }
-    ensures { λ _. ⌜
+    ensures done { λ _. ⌜
         ((x : List ℕ) → Performs (λ (side : Side). writeData side w) (now (s .entry)) (now (vram .entry)) x
         (now (s .exit)) (now (vram .exit)) x)
         ⌝ }
+    ensures mask { λ r. ⌜ r ≡ stateAt (now (s .entry)) .host .vram .nibbles ⌝ }
 {
     let a = VramAddr(s[WR_ADDR]);
     let mask = s[NIBBLES];
     vram::store(vram, a, mask, w);
     s[WR_ADDR] = std::num::wrapping_add_u16(a.0, s[WR_INCR]);
+    mask
 }

@@ -4,26 +4,26 @@ use Rattle.xosera.specs.Fields.{flagBits}
 use Rattle.xosera.specs.Memories.{isVramLength, isXrLength, place, word, stored}
 use Rattle.xosera.specs.Blitter.{launched, startedEngine, isConstant, fetched, sourced, firstMask, lastWord, lastMask, testMask, writeMask}
 use Rattle.xosera.specs.Blitter.{drawing, drawn, lastStep, nextSource, nextDest, nextKept, next, succeeding, stepped, steps}
-use Rattle.xosera.specs.Blitter.{blitWords, engineLeft, wordsLeft}
+use Rattle.xosera.specs.Blitter.{stepMask, nthMask, blitWords, engineLeft, wordsLeft}
 use Rattle.xosera.specs.Plan.{changed, vramLoaded, perform}
 use Rattle.xosera.specs.XrSpace.{within, isBlitRegister, playfieldRead, registerRead, xrRead, put, videoWrite, blitWrite, xrMemoryWrite, xrWrite}
 use Rattle.xosera.specs.HostBytes.{wordOf, latched, xrLoaded, vramLoad, writeWord, writeByte, shown, highByte, lowByte, timerSaved, readByte}
 use Rattle.xosera.specs.TimerTick.{expires, lowered, ticked, tick, frameEnd}
 use Rattle.xosera.specs.Ranges.{timerInRange, areBytes, hostInRange, startsEmpty, runningInRange, isNoRegs, idleInRange, engineInRange, inRange}
 use Rattle.xosera.specs.Refusals.{badVram, badXr, badState, badRegister, blitterFull, reconfigures, tests, first, refusal}
-use Rattle.xosera.specs.Calls.{actOf, done, after, lineUp, given, answer}
+use Rattle.xosera.specs.Calls.{actOf, done, after, lineUp, given, wrote, answer}
 use Rattle.xosera.specs.Sequences.{wordsOf, afterAll, allAnswers}
 
 unfoldable pub computing : Unit {0}
 unfolding wrap bit nibble withoutBit chosen merged shifted combined isColour colourMask flagBits
     isVramLength isXrLength place word stored
     launched startedEngine isConstant fetched sourced firstMask lastWord lastMask testMask writeMask
-    drawing drawn lastStep nextSource nextDest nextKept next succeeding stepped steps blitWords engineLeft wordsLeft
+    drawing drawn lastStep nextSource nextDest nextKept next succeeding stepped steps stepMask nthMask blitWords engineLeft wordsLeft
     changed vramLoaded perform
     within isBlitRegister playfieldRead registerRead xrRead put videoWrite blitWrite xrMemoryWrite xrWrite
     wordOf latched xrLoaded vramLoad writeWord writeByte shown highByte lowByte timerSaved readByte
     expires lowered ticked tick frameEnd
     timerInRange areBytes hostInRange startsEmpty runningInRange isNoRegs idleInRange engineInRange inRange
     badVram badXr badState badRegister blitterFull reconfigures tests first refusal
-    actOf done after lineUp given answer wordsOf afterAll allAnswers
+    actOf done after lineUp given wrote answer wordsOf afterAll allAnswers
 computing = tt

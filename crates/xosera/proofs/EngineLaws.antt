@@ -2,16 +2,20 @@
 use mathlib.Core.Path.{_≡_, refl, sym, ap, _∙_}
 use mathlib.Core.Bool.{Bool, true, false, cond}
 use mathlib.Core.List.{List}
-use Prim.Native.Nat.{ℕ, suc, _+_, _*_, _-_, _<_}
+use Prim.Native.Nat.{ℕ, suc, _+_, _*_, _-_, _≤_, _<_}
 use native.Mathlib.Omega.{arith}
 use native.Mathlib.Nat.{sub-self, sub-zero, zero-mul}
+use lib.Bits.{bitAnd, and-le-r}
 use lib.ListN.{length, length-set}
 use borrow.Author.Tests.{eqb-true, eqb-false}
 use Rattle.xosera.specs.declared.BlitRegs.{BlitRegs}
 use Rattle.xosera.specs.declared.Engine.{Engine}
 use Rattle.xosera.specs.State.{isSet}
+use Rattle.xosera.specs.Words.{isColour, colourMask}
+use Rattle.xosera.specs.Fields.{colourTested, wholeBytes, testColour}
 use Rattle.xosera.specs.Memories.{Store, stored}
-use Rattle.xosera.specs.Blitter.{noRegs, idle, launched, fetched, lastWord, lastStep, nextKept, next, drawing, drawn, succeeding, blitWords, engineLeft}
+use Rattle.xosera.specs.Blitter.{noRegs, idle, launched, fetched, firstMask, lastWord, lastMask, testMask, writeMask, lastStep, nextKept, next}
+use Rattle.xosera.specs.Blitter.{drawing, drawn, succeeding, blitWords, engineLeft}
 use Rattle.xosera.specs.Ranges.{startsEmpty, Running, runningInRange, isNoRegs, idleInRange, engineInRange}
 use Rattle.xosera.proofs.Branches.{cond-yes, cond-no, cond-either, parts}
 use Rattle.xosera.proofs.MaskLaws.{stored-either}
@@ -84,7 +88,7 @@ unfolding engineLeft
 idle-left e r = cond-no _ _ r
 
 module _ (e : Engine) (f : Running e) where
-  left-counts : engineLeft e ≡ (e .regs .words + 1 - e .word) + (e .regs .lines - e .line) * (e .regs .words + 1)
+  pub left-counts : engineLeft e ≡ (e .regs .words + 1 - e .word) + (e .regs .lines - e .line) * (e .regs .words + 1)
   unfolding engineLeft
   left-counts = cond-yes _ _ (f .runs)
 
@@ -157,3 +161,20 @@ stored-length s v = stored-either (λ (l : List ℕ). length l ≡ length v) s v
 pub drawn-length : (e : Engine) (v : List ℕ) → length (drawn e v) ≡ length v
 unfolding drawn
 drawn-length e v = stored-length (drawing e (fetched e v)) v
+
+-- A colour mask has four bits, and so has a write mask.
+colour-mask-small : (b : Bool) (t s : ℕ) → colourMask b t s ≤ 15
+unfolding colourMask
+colour-mask-small b t s =
+    omega (arith, at-most (isColour b t s 3) 8, at-most (isColour b t s 2) 4, at-most (isColour b t s 1) 2, at-most (isColour b t s 0) 1)
+  where
+    at-most : (c : Bool) (n : ℕ) → cond c 0 n ≤ n
+    at-most c n = cond-either (λ (m : ℕ). m ≤ n) c 0 n (omega arith) (omega arith)
+
+pub write-mask-small : (e : Engine) (s : ℕ) → writeMask e s ≤ 15
+unfolding writeMask testMask
+write-mask-small e s =
+    let ctrl = e .regs .ctrl in
+    let colours = colour-mask-small (wholeBytes ctrl) (testColour ctrl) s in
+    let tested : testMask e s ≤ 15 = cond-either (λ (m : ℕ). m ≤ 15) (colourTested ctrl) _ 15 colours (omega arith) in
+    omega (arith, and-le-r (bitAnd (firstMask e) (lastMask e)) (testMask e s))

@@ -1,11 +1,11 @@
--- A blit step is one of three: nothing on an idle engine, a blit's last word, or another of its words.
+-- A blit step is one of three: nothing on an idle engine, a blit's last word, or another of its words; and its mask.
 use mathlib.Core.Path.{_≡_, refl, _∙_}
 use mathlib.Core.Bool.{Bool, true, false}
 use Prim.Native.Nat.{ℕ, zero, suc}
 use Rattle.xosera.specs.State.{isSet}
 use Rattle.xosera.specs.Adapter.{Adapter}
-use Rattle.xosera.specs.Blitter.{lastStep, wordDrawn, blitEnded, stepped, steps}
-use Rattle.xosera.proofs.Branches.{cond-yes, cond-no}
+use Rattle.xosera.specs.Blitter.{fetched, drawing, drawn, lastStep, wordDrawn, blitEnded, stepped, steps, stepMask}
+use Rattle.xosera.proofs.Branches.{cond-yes, cond-no, clash}
 
 pub stepped-idle : (a : Adapter) → isSet (a .engine .running) ≡ false → stepped a ≡ a
 unfolding stepped
@@ -38,3 +38,16 @@ pub steps-keep : (P : Adapter → Type 0) → ((a : Adapter) → P a → P (step
 unfolding steps
 steps-keep P keeps zero a p = p
 steps-keep P keeps (suc n) a p = steps-keep P keeps n (stepped a) (keeps a p)
+
+-- A step on a running engine draws the engine's next word and no other, and its mask is that of the store.
+pub stepped-vram : (a : Adapter) → isSet (a .engine .running) ≡ true → stepped a .vram ≡ drawn (a .engine) (a .vram)
+stepped-vram a r =
+    step-cases (λ (c : Adapter). c .vram ≡ drawn (a .engine) (a .vram)) a (λ i. absurd (clash r i)) (λ _ _. refl) (λ _ _. refl)
+
+pub running-mask : (a : Adapter) → isSet (a .engine .running) ≡ true → stepMask a ≡ drawing (a .engine) (fetched (a .engine) (a .vram)) .mask
+unfolding stepMask
+running-mask a r = cond-yes _ 0 r
+
+pub idle-mask : (a : Adapter) → isSet (a .engine .running) ≡ false → stepMask a ≡ 0
+unfolding stepMask
+idle-mask a r = cond-no _ 0 r

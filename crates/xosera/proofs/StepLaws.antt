@@ -1,15 +1,17 @@
 -- Demand 2: a blit draws one word a step, ends on its last word and not before, and a run counts what its steps count.
-use mathlib.Core.Path.{_≡_, refl, _∙_, ap}
+use mathlib.Core.Path.{_≡_, refl, sym, _∙_, ap}
 use mathlib.Core.Bool.{Bool, true, false}
 use Prim.Native.Nat.{ℕ, zero, suc, _+_, _-_, _≤_, _<_, min}
 use native.Mathlib.Omega.{arith}
+use native.Mathlib.Decide.{ℕ-discrete}
 use native.Mathlib.Nat.{zero-add, suc-add, mod-mod}
 use borrow.Author.Tests.{eq-eqb, ne-eqb}
 use Rattle.xosera.specs.declared.BlitRegs.{BlitRegs}
 use Rattle.xosera.specs.declared.Engine.{Engine}
 use Rattle.xosera.specs.State.{isSet}
 use Rattle.xosera.specs.Adapter.{Adapter, stateOf}
-use Rattle.xosera.specs.Blitter.{launched, startedEngine, blitStarted, fetched, lastStep, stepped, steps, blitWords, wordsLeft}
+use Rattle.xosera.specs.Blitter.{launched, startedEngine, blitStarted, fetched, sourced, drawing, lastStep, stepped, steps}
+use Rattle.xosera.specs.Blitter.{stepMask, nthMask, blitWords, wordsLeft}
 use Rattle.xosera.specs.Plan.{carriedOut, perform}
 use Rattle.xosera.specs.XrSpace.{xrWrite}
 use Rattle.xosera.specs.HostBytes.{writeByte, writeWord}
@@ -18,8 +20,8 @@ use Rattle.xosera.specs.Ranges.{Running, inRange}
 use Rattle.xosera.specs.Refusals.{refusal}
 use Rattle.xosera.specs.Calls.{actOf, done, after, given}
 use Rattle.xosera.specs.Sequences.{startWith, Starts, wordsOf}
-use Rattle.xosera.proofs.Branches.{cond-yes, cond-no, not-passed}
-use Rattle.xosera.proofs.EngineLaws.{launched-left, last-left, next-left, idle-left, running-left, succeeding-left}
+use Rattle.xosera.proofs.Branches.{cond-yes, cond-no, cond-either, not-passed}
+use Rattle.xosera.proofs.EngineLaws.{launched-left, last-left, next-left, idle-left, running-left, succeeding-left, write-mask-small}
 use Rattle.xosera.proofs.StepCases.{stepped-idle, stepped-last, stepped-on}
 use Rattle.xosera.proofs.RefusalLaws.{accepted-in-range}
 use Rattle.xosera.proofs.RangeLaws.{in-range-unqueued, in-range-runs, stepped-in-range, steps-in-range}
@@ -35,6 +37,18 @@ pub steps-add : (m n : ℕ) (a : Adapter) → steps (m + n) a ≡ steps n (steps
 unfolding steps
 steps-add zero n a = rw zero-add
 steps-add (suc m) n a = rw suc-add (steps-add m n (stepped a))
+
+-- The mask of a step has four bits.
+pub step-mask-small : (a : Adapter) → stepMask a ≤ 15
+unfolding stepMask drawing
+step-mask-small a =
+    let small = write-mask-small (a .engine) (sourced (a .engine) (fetched (a .engine) (a .vram))) in
+    cond-either (λ (m : ℕ). m ≤ 15) (isSet (a .engine .running)) _ 0 small (omega arith)
+
+pub nth-mask-small : (n : ℕ) (a : Adapter) → nthMask n a ≤ 15
+unfolding nthMask
+nth-mask-small zero a = omega arith
+nth-mask-small (suc n) a = step-mask-small (steps n a)
 
 -- Words left: none when idle, some while running, and one less after each step.
 module _ (a : Adapter) (h : inRange (stateOf a) ≡ true) where
@@ -86,6 +100,19 @@ module _ (n : ℕ) (a : Adapter) (h : inRange (stateOf a) ≡ true) where
 
   pub not-before : n < wordsLeft a → isSet (steps n a .engine .running) ≡ true
   not-before l = running-while-left (steps n a) (steps-in-range n a h) (omega (arith, steps-left n a h))
+
+-- Of n steps only as many matter as words are left.
+pub steps-enough : (n : ℕ) (a : Adapter) → inRange (stateOf a) ≡ true → steps (min n (wordsLeft a)) a ≡ steps n a
+steps-enough n a h = go (ℕ-discrete (min n (wordsLeft a)) n)
+  where
+    m : ℕ
+    m = min n (wordsLeft a)
+
+    go : Dec (min n (wordsLeft a) ≡ n) → steps (min n (wordsLeft a)) a ≡ steps n a
+    go (yes e) = ap (λ (k : ℕ). steps k a) e
+    go (no d) =
+        let split : m + (n - m) ≡ n = omega arith in
+        sym (steps-idle (n - m) (steps m a) (over-after m a h (omega (arith, d)))) ∙ sym (steps-add m (n - m) a) ∙ ap (λ (k : ℕ). steps k a) split
 
 -- What n single steps count.
 unfoldable pub stepsCount : ℕ → Adapter → ℕ

@@ -51,12 +51,15 @@ bench ws = adapter resetState (replicate 16 0xFFFF ++ ws ++ replicate (240 - len
 abbrev pub seen : ℕ → ℕ → Adapter → List Event → List ℕ
 seen at n a es = take n (drop at (afterAll a es .vram))
 
--- The numbers that events answer, and their refusals.
+-- The numbers that events answer, their refusals, and the nibbles that they wrote.
 abbrev pub told : Adapter → List Event → List ℕ
 told a es = map (λ (x : Answer). x .value) (allAnswers a es)
 
 abbrev pub refused : Adapter → List Event → List ℕ
 refused a es = map (λ (x : Answer). x .refusal) (allAnswers a es)
+
+abbrev pub masked : Adapter → List Event → List ℕ
+masked a es = map (λ (x : Answer). x .mask) (allAnswers a es)
 
 -- A tick, the interrupt status after it, and a write that clears it.
 abbrev pub tickAndClear : List Event

@@ -173,6 +173,15 @@ unfoldable pub steps : ℕ → Adapter → Adapter
 steps zero a = a
 steps (suc n) a = steps n (stepped a)
 
+-- The mask of the next step, that of its store, after edges and colour test; 0 on an idle engine (document 02, request 2).
+unfoldable pub stepMask : Adapter → ℕ
+stepMask a = cond (isSet (a .engine .running)) (drawing (a .engine) (fetched (a .engine) (a .vram)) .mask) 0
+
+-- The mask of the n-th step from here, counted from 1; of none, 0.
+unfoldable pub nthMask : ℕ → Adapter → ℕ
+nthMask zero a = 0
+nthMask (suc n) a = stepMask (steps n a)
+
 -- The words of a blit: (LINES mod 32,768) + 1 lines of WORDS + 1 words.
 unfoldable pub blitWords : BlitRegs → ℕ
 blitWords r = (r .lines % 32768 + 1) * (r .words + 1)

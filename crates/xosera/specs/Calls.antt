@@ -7,7 +7,7 @@ use Rattle.xosera.specs.Adapter.{Side, Adapter, stateOf}
 use Rattle.xosera.specs.Plan.{Act, quiet, perform}
 use Rattle.xosera.specs.HostBytes.{writeByte, readByte, flagsOf, highByte, lowByte}
 use Rattle.xosera.specs.TimerTick as TimerTick
-use Rattle.xosera.specs.Blitter.{stepped, steps, wordsLeft}
+use Rattle.xosera.specs.Blitter.{stepped, steps, stepMask, nthMask, wordsLeft}
 use Rattle.xosera.specs.Events.{Call, Event, Answer, write, read, tick, frameEnd, line, call, step, run}
 use Rattle.xosera.specs.Refusals.{refusal}
 
@@ -44,6 +44,17 @@ given a (call line) = cond (lineUp (a .side .host .intmask) (a .status)) 1 0
 given a step = min 1 (wordsLeft a)
 given a (run n) = min n (wordsLeft a)
 
--- The answer to an event: a refusal gives byte 0, count 0 and no.
+-- The nibbles that an event writes when it is not refused (document 02, request 2): a call those of its one store, which is an
+-- odd data write's; a step its own; a run those of the last word that it does.
+unfoldable pub wrote : Adapter → Event → ℕ
+wrote a (call c) = actOf (a .side) c .store .mask
+wrote a step = stepMask a
+wrote a (run n) = nthMask (given a (run n)) a
+
+-- The answer to an event: a refusal gives byte 0, count 0, no and mask 0.
 unfoldable pub answer : Adapter → Event → Answer
-answer a e = record { refusal = refusal a e; value = cond (eqb (refusal a e) 0) (given a e) 0 }
+answer a e = record {
+  refusal = refusal a e;
+  value = cond (eqb (refusal a e) 0) (given a e) 0;
+  mask = cond (eqb (refusal a e) 0) (wrote a e) 0;
+}

@@ -22,11 +22,16 @@ pub data Event : Type 0 where
   step : Event
   run : ℕ → Event
 
--- What a call answers: its refusal, 0 for done, and a number: the byte of a read, the count of a step or run, 1 for a line that
--- is up, the length of a saved file.
+-- What a call answers: its refusal, 0 for done; a number: the byte of a read, the count of a step or run, 1 for a line that is
+-- up, the length of a saved file; and the nibbles of VRAM that it wrote last, as a four-bit mask (document 02, request 2).
 pub record Answer : Type 0 where
   pub refusal : ℕ
   pub value : ℕ
+  pub mask : ℕ
+
+-- The answer of a call that writes no VRAM nibble: its mask is 0.
+abbrev pub maskless : ℕ → ℕ → Answer
+maskless refusal value = record { refusal = refusal; value = value; mask = 0 }
 
 -- A refused call leaves every word of the state as it was.
 abbrev pub Untouched : Answer → List ℕ → List ℕ → Type 0
@@ -34,16 +39,16 @@ Untouched told before after = (told .refusal ≡ 0 → ⊥) → after ≡ before
 
 -- The answer that each returned struct stands for.
 abbrev pub ofWrite : WriteAnswer → Answer
-ofWrite r = record { refusal = r .refusal; value = 0 }
+ofWrite r = record { refusal = r .refusal; value = 0; mask = r .mask }
 
 abbrev pub ofRead : ReadAnswer → Answer
-ofRead r = record { refusal = r .refusal; value = r .byte }
+ofRead r = maskless (r .refusal) (r .byte)
 
 abbrev pub ofBlit : BlitAnswer → Answer
-ofBlit r = record { refusal = r .refusal; value = r .count }
+ofBlit r = record { refusal = r .refusal; value = r .count; mask = r .mask }
 
 abbrev pub ofState : StateAnswer → Answer
-ofState r = record { refusal = r .refusal; value = 0 }
+ofState r = maskless (r .refusal) 0
 
 abbrev pub ofLine : LineAnswer → Answer
-ofLine r = record { refusal = r .refusal; value = cond (r .up) 1 0 }
+ofLine r = maskless (r .refusal) (cond (r .up) 1 0)

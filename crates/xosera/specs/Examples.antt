@@ -11,7 +11,7 @@ use Rattle.xosera.specs.Events.{Event, write, read, tick, frameEnd, line
 use Rattle.xosera.specs.Ranges.{resetState}
 use Rattle.xosera.specs.Sequences.{afterAll}
 use Rattle.xosera.specs.BenchTable.{CTRL, ANDC, XOR, MODS, SRCS, MODD, DSTD, SHIFT, LINES, WORDS, _is_, blit}
-use Rattle.xosera.specs.BenchTable.{Row, _gives_, setWord, setXr, readWord, bench, seen, told, refused, blitted}
+use Rattle.xosera.specs.BenchTable.{Row, _gives_, setWord, setXr, readWord, bench, seen, told, refused, masked, blitted}
 
 -- An idle adapter with memories of any length and any interrupt status.
 abbrev pub lent : ℕ → ℕ → ℕ → Adapter
@@ -56,6 +56,13 @@ maskedWrite = setWord 0 0 ++ setWord 8 1 ++ setWord 11 0x1234
 -- A blit of one word, the constant 0x1234 to 0, and a second one queued behind it, 0x5678 to 2.
 abbrev pub twoBlits : Adapter
 twoBlits = afterAll (bench []) (blit (CTRL is 1 ++ SRCS is 0x1234 ++ WORDS is 0 ++ SRCS is 0x5678 ++ DSTD is 2 ++ WORDS is 0))
+
+-- A copy of three words whose edges are trimmed, as in the bench table's first row; and behind it, queued, one of one word.
+abbrev pub edgedCopy : List Event
+edgedCopy = SRCS is 0x10 ++ SHIFT is 0x7801 ++ WORDS is 2
+
+abbrev pub edgedTwice : Adapter
+edgedTwice = afterAll (bench []) (edgedCopy ++ SHIFT is 0x6300 ++ WORDS is 0)
 
 -- A word in each of the first and last places of the three XR memories, and one behind each memory.
 abbrev pub xrFilled : Adapter
@@ -177,6 +184,31 @@ abbrev pub maskZero : Row
 maskZero =
     seen 0 1 (bench []) maskedWrite ++ told (afterAll (bench []) maskedWrite) (readWord 9) gives 0xFFFF ∷ 0x00 ∷ 0x01 ∷ []
 
+-- Masks of steps (document 02, request 2): those of the bench table's first row, word by word, then none; both masks on a line of
+-- one word; the colour test by nibbles and by bytes.
+abbrev pub stepMasks : Row
+stepMasks =
+    masked (afterAll (bench (0x1234 ∷ 0x5678 ∷ 0x9ABC ∷ [])) edgedCopy) (step ∷ step ∷ step ∷ step ∷ [])
+    ++ masked (afterAll (bench []) (CTRL is 1 ++ SHIFT is 0x7E00 ++ WORDS is 0)) (step ∷ [])
+    ++ masked (afterAll (bench []) (blit (SRCS is 0x0B0A ++ CTRL is 0x0A11 ++ WORDS is 0))) (step ∷ [])
+    ++ masked (afterAll (bench []) (blit (SRCS is 0x0B0A ++ CTRL is 0x0A31 ++ WORDS is 0))) (step ∷ [])
+    gives 7 ∷ 0xF ∷ 8 ∷ 0 ∷ 6 ∷ 4 ∷ 0xC ∷ []
+
+-- Masks of runs: of its last word, also at a blit's end and in the queued blit, and with n left over; 0 of none.
+abbrev pub runMasks : Row
+runMasks =
+    masked edgedTwice (run 0 ∷ run 1 ∷ run 1 ∷ run 9 ∷ run 9 ∷ []) ++ masked edgedTwice (run 2 ∷ run 2 ∷ [])
+    ++ masked edgedTwice (run 3 ∷ run 1 ∷ []) ++ masked edgedTwice (run 4 ∷ [])
+    gives 0 ∷ 7 ∷ 0xF ∷ 2 ∷ 0 ∷ 0xF ∷ 2 ∷ 8 ∷ 2 ∷ 2 ∷ []
+
+-- Masks of writes: an odd data write's, at 10 and 11; none of any other or of a refused one, a read or a tick.
+abbrev pub writeMasks : Row
+writeMasks =
+    masked (bench []) (setWord 0 5 ++ setWord 10 0xFFFF ++ setWord 0 0xFA ++ setWord 11 0 ++ setWord 9 0xFFFF ++ setWord 5 0xFFFF ++ setWord 12 0xFFFF)
+    ++ masked (bench []) (call (write 26 true 0xFF) ∷ call (read 10 true) ∷ call tick ∷ [])
+    ++ masked (lent 128 6656 0) (call (write 10 true 0xFF) ∷ step ∷ run 1 ∷ [])
+    gives 0 ∷ 0 ∷ 0 ∷ 5 ∷ 0 ∷ 0 ∷ 0 ∷ 0xA ∷ 0 ∷ 0 ∷ 0 ∷ 0 ∷ 0 ∷ 0 ∷ 0 ∷ 0 ∷ 0 ∷ 0 ∷ 0 ∷ 0 ∷ []
+
 -- Reset: nibble mask 15, XR_VID_RIGHT 640; 12 to 15 read 0 also when written.
 abbrev pub afterReset : Row
 afterReset =
@@ -193,7 +225,7 @@ abbrev pub examples : List Row
 examples =
     lineStartsEmpty ∷ colourOfSource ∷ colourOfShifted ∷ constantUnshifted ∷ unusedBits ∷ laterRegisters ∷ queuedRegisters ∷ stepCounts ∷ fullRegisters
     ∷ registersReadBack ∷ blitterReadsZero ∷ xrMemories ∷ lowestRefusal ∷ stateAlone ∷ flagsAndBytes ∷ reconfigureRefused ∷ lineUpAndDown ∷ latchEach
-    ∷ dataReads ∷ maskZero ∷ afterReset ∷ gfxFields ∷ []
+    ∷ dataReads ∷ maskZero ∷ stepMasks ∷ runMasks ∷ writeMasks ∷ afterReset ∷ gfxFields ∷ []
 
 -- Every example gives what it should.
 abbrev pub ExamplesHold : Type 0

@@ -35,10 +35,12 @@ pub struct Engine {
     pub regs: BlitRegs,
 }
 
-// What writing a byte answers. In every answer `refusal` is 0 for done.
+// What writing a byte answers. In every answer `refusal` is 0 for done. `mask` has the nibbles of VRAM that were written, bit 3 for
+// 15:12 of the word to bit 0 for 3:0, and is 0 of all but an odd data write.
 #[repr(C)]
 pub struct WriteAnswer {
     pub refusal: u8,
+    pub mask: u8,
 }
 
 // What reading a byte answers.
@@ -48,10 +50,11 @@ pub struct ReadAnswer {
     pub byte: u8,
 }
 
-// What a blit step and a run of blit steps answer: how many words were done.
+// What a blit step and a run of blit steps answer: how many words were done, and the nibbles that the last of them wrote.
 #[repr(C)]
 pub struct BlitAnswer {
     pub refusal: u8,
+    pub mask: u8,
     pub count: u64,
 }
 

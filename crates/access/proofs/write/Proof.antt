@@ -1,4 +1,5 @@
 -- The latch filled, or the word written.
+use mathlib.Core.Path.{refl}
 use borrow.Author.Tests.{not-true, not-false}
 use Rattle.xosera.specs.HostBytes.{writeByte}
 use borrow.Author.Needs.{needs}
@@ -12,11 +13,12 @@ same-length : tie.Need-same-length
 same-length c = search needs
 
 returns : tie.Need-returns
+unfolding writeByte
 returns c =
     let at-fill-latch = c .before .before in
     let at-if1 = at-fill-latch .before .before in
     let start = at-if1 .before .before .before .before in
-    rw (not-true (start .args .odd) (at-if1 .if1 .taken)) (at-fill-latch .fill-latch .ensures (start .args .vram .now) (start .args .xr .now))
+    rw (not-true (start .args .odd) (at-if1 .if1 .taken)) (at-fill-latch .fill-latch .ensures (start .args .vram .now) (start .args .xr .now), refl)
 
 word-written-requires : tie.Need-word-written-requires
 word-written-requires c κs = search needs

@@ -1,14 +1,16 @@
 -- Refused, or as many words as are left.
-use mathlib.Core.Path.{_≡_, refl, sym, _∙_}
-use mathlib.Core.List.{[]}
+use mathlib.Core.Path.{_≡_, refl, sym, ap, _∙_}
+use Prim.Native.Nat.{ℕ}
 use Rattle.xosera.specs.State.{stateAt}
 use Rattle.xosera.specs.Adapter.{Adapter, adapterAt}
+use Rattle.xosera.specs.Blitter.{nthMask}
 use Rattle.xosera.specs.Events.{run}
 use Rattle.xosera.specs.Refusals.{refusal}
-use Rattle.xosera.specs.Calls.{done, given}
+use Rattle.xosera.specs.Calls.{done, given, wrote}
+use Rattle.xosera.proofs.StepLaws.{nth-mask-small}
 use Rattle.refusals.proofs.Accepted.{run-fit}
 use Rattle.refusals.proofs.RefusalOrder.{run-refusal}
-use Rattle.adapter.proofs.Promised.{refused, performed}
+use Rattle.adapter.proofs.Promised.{byte-mask, refused, performed}
 use borrow.Author.Needs.{needs}
 use Rattle.adapter.proofs.blit_run.Statement.{statement}
 use Rattle.adapter.proofs.blit_run.Tie as tie
@@ -43,25 +45,26 @@ run-requires c κs =
     let fit = run-fit (here (at-if1 .before)) (began (at-if1 .before) .args .n) (accepted at-if1) in
     (search needs, (fit .vram, fit .state))
 
-sub-count : tie.Need-sub-count
-sub-count c =
-    let at-run = c .before .before in
-    at-run .run .ensures .1 [] .0
+low-byte-requires : tie.Need-low-byte-requires
+low-byte-requires c κs = search needs
 
 same-length : tie.Need-same-length
 same-length c = search needs
 
 returns-2 : tie.Need-returns-2
-unfolding done given
+unfolding done given wrote
 returns-2 c =
-    let at-run = c .before .before in
+    let at-run = c .before .before .before in
     let at-if1 = at-run .before .before .before in
     let a = began (at-if1 .before) .args in
-    let told = at-run .run .ensures in (
-      performed (here (at-if1 .before)) (run (a .n)) _ _ (accepted at-if1) (told .1 (a .xr .now) .1) (told .0 (a .xr .now)),
+    let told = at-run .run .ensures in
+    let count = told .1 .0 (a .xr .now) in
+    let mask = byte-mask (c .low-byte .ensures) (told .1 .1 (a .xr .now) ∙ ap (λ (k : ℕ). nthMask k (here (at-if1 .before))) count)
+    (nth-mask-small _ (here (at-if1 .before))) in (
+      performed (here (at-if1 .before)) (run (a .n)) _ _ _ (accepted at-if1) count mask (told .0 (a .xr .now)),
       λ n. absurd (n refl),
     )
 
 pub blit-run-spec : {M : Type 1} → statement M
 blit-run-spec =
-    tie.close (tie.spec registers-in-range-requires lent-refusal-requires returns run-requires sub-count same-length returns-2)
+    tie.close (tie.spec registers-in-range-requires lent-refusal-requires returns run-requires low-byte-requires same-length returns-2)

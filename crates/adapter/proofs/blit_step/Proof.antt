@@ -4,10 +4,11 @@ use Rattle.xosera.specs.State.{stateAt}
 use Rattle.xosera.specs.Adapter.{Adapter, adapterAt}
 use Rattle.xosera.specs.Events.{step}
 use Rattle.xosera.specs.Refusals.{refusal}
-use Rattle.xosera.specs.Calls.{done, given}
+use Rattle.xosera.specs.Calls.{done, given, wrote}
+use Rattle.xosera.proofs.StepLaws.{step-mask-small}
 use Rattle.refusals.proofs.Accepted.{step-fit}
 use Rattle.refusals.proofs.RefusalOrder.{step-refusal}
-use Rattle.adapter.proofs.Promised.{refused, performed}
+use Rattle.adapter.proofs.Promised.{byte-mask, refused, performed}
 use borrow.Author.Needs.{needs}
 use Rattle.adapter.proofs.blit_step.Statement.{statement}
 use Rattle.adapter.proofs.blit_step.Tie as tie
@@ -40,18 +41,22 @@ step-requires c κs =
     let fit = step-fit (here (at-if1 .before)) (accepted at-if1) in
     (search needs, (fit .vram, fit .state))
 
+low-byte-requires : tie.Need-low-byte-requires
+low-byte-requires c κs = search needs
+
 same-length : tie.Need-same-length
 same-length c = search needs
 
 returns-2 : tie.Need-returns-2
-unfolding done given
+unfolding done given wrote
 returns-2 c =
-    let at-step = c .before .before in
+    let at-step = c .before .before .before in
     let at-if1 = at-step .before .before .before in
     let x = began (at-if1 .before) .args .xr .now in
     let told = at-step .step .ensures in
-    (performed (here (at-if1 .before)) step _ _ (accepted at-if1) (told .1 x) (told .0 x), λ n. absurd (n refl))
+    let mask = byte-mask (c .low-byte .ensures) (told .1 .1 x) (step-mask-small (here (at-if1 .before))) in
+    (performed (here (at-if1 .before)) step _ _ _ (accepted at-if1) (told .1 .0 x) mask (told .0 x), λ n. absurd (n refl))
 
 pub blit-step-spec : {M : Type 1} → statement M
 blit-step-spec =
-    tie.close (tie.spec registers-in-range-requires lent-refusal-requires returns step-requires same-length returns-2)
+    tie.close (tie.spec registers-in-range-requires lent-refusal-requires returns step-requires low-byte-requires same-length returns-2)

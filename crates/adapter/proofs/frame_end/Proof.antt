@@ -8,6 +8,7 @@ use Rattle.xosera.specs.Events.{frameEnd, call}
 use Rattle.xosera.specs.Refusals.{refusal}
 use Rattle.xosera.specs.Calls.{actOf, done, given}
 use Rattle.refusals.proofs.RefusalOrder.{a-frame-end, state-refusal}
+use Rattle.masks.proofs.AnsweredMasks.{call-wrote}
 use Rattle.adapter.proofs.Promised.{refused, performed}
 use borrow.Author.Needs.{needs}
 use Rattle.adapter.proofs.frame_end.Statement.{statement}
@@ -37,7 +38,8 @@ unfolding done actOf given
 returns-2 c =
     let at-if1 = c .before .before in
     let at-test = at-if1 .before in (
-      λ v x. performed (here at-test v x) (call frameEnd) 0 _ (sym (tested at-test v x) ∙ at-if1 .if1 .left) refl (c .frame-end .ensures v x),
+      λ v x. performed (here at-test v x) (call frameEnd) 0 0 _ (sym (tested at-test v x) ∙ at-if1 .if1 .left) refl
+          (sym (call-wrote (here at-test v x) frameEnd)) (c .frame-end .ensures v x),
       λ n. absurd (n refl),
     )
 

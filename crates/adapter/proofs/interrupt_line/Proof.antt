@@ -11,6 +11,7 @@ use Rattle.xosera.specs.Events.{line, call}
 use Rattle.xosera.specs.Refusals.{refusal}
 use Rattle.xosera.specs.Calls.{actOf, done, given}
 use Rattle.refusals.proofs.RefusalOrder.{a-line, state-refusal}
+use Rattle.masks.proofs.AnsweredMasks.{call-wrote}
 use Rattle.adapter.proofs.Promised.{refused, performed}
 use borrow.Author.Needs.{needs}
 use Rattle.adapter.proofs.interrupt_line.Statement.{statement}
@@ -41,7 +42,7 @@ returns-2 c =
     let at-if1 = c .before .before in
     let at-test = at-if1 .before in
     let up = ap {B = ℕ} (λ (b : Bool). cond b 1 0) (c .line-up .ensures) in
-    λ v x. performed (here at-test v x) (call line) _ _ (sym (tested at-test v x) ∙ at-if1 .if1 .left) up refl
+    λ v x. performed (here at-test v x) (call line) _ 0 _ (sym (tested at-test v x) ∙ at-if1 .if1 .left) up (sym (call-wrote (here at-test v x) line)) refl
 
 pub interrupt-line-spec : {M : Type 1} → statement M
 interrupt-line-spec =

@@ -5,6 +5,7 @@ use Rattle.xosera.specs.Events.{Event, read, call}
 use Rattle.xosera.specs.Refusals.{Fit, refusal}
 use Rattle.xosera.specs.Calls.{actOf, done}
 use Rattle.refusals.proofs.Accepted.{read-fit}
+use Rattle.masks.proofs.AnsweredMasks.{call-wrote}
 use Rattle.adapter.proofs.Promised.{refused, performed}
 use borrow.Author.Needs.{needs}
 use Rattle.adapter.proofs.read_byte.Statement.{statement}
@@ -53,7 +54,8 @@ returns-2 c =
     let at-if1 = at-byte-read .before .before .before in
     let at-test = at-if1 .before in
     let a = began at-test .args in (
-      performed (here at-test) (event at-test) _ _ (accepted at-if1) (at-byte-read .byte-read .ensures (a .vram .now) (a .xr .now)) (c .read .ensures),
+      performed (here at-test) (event at-test) _ 0 _ (accepted at-if1) (at-byte-read .byte-read .ensures (a .vram .now) (a .xr .now))
+          (sym (call-wrote (here at-test) (read (a .reg) (a .odd)))) (c .read .ensures),
       λ n. absurd (n refl),
     )
 

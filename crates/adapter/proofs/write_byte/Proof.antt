@@ -4,10 +4,12 @@ use Rattle.xosera.specs.State.{stateAt}
 use Rattle.xosera.specs.Adapter.{Adapter, adapterAt}
 use Rattle.xosera.specs.Events.{Event, write, call}
 use Rattle.xosera.specs.Refusals.{refusal}
-use Rattle.xosera.specs.Calls.{actOf, done, given}
+use Rattle.xosera.specs.Calls.{actOf, done, given, wrote}
 use Rattle.xosera.proofs.RangeLaws.{latch-byte}
+use Rattle.xosera.proofs.RefusalLaws.{accepted-in-range}
 use Rattle.refusals.proofs.Accepted.{write-fit}
-use Rattle.adapter.proofs.Promised.{refused, performed}
+use Rattle.masks.proofs.AnsweredMasks.{write-mask-four}
+use Rattle.adapter.proofs.Promised.{byte-mask, refused, performed}
 use borrow.Author.Needs.{needs}
 use Rattle.adapter.proofs.write_byte.Statement.{statement}
 use Rattle.adapter.proofs.write_byte.Tie as tie
@@ -41,6 +43,9 @@ write-requires c κs =
     let fit = write-fit (here (at-if1 .before)) (a .reg) (a .odd) (a .byte) (accepted at-if1) in
     (search needs, (fit .0 .vram, (fit .0 .xr, (fit .1, latch-byte (stateAt (a .s .now)) (a .reg) (fit .0 .state)))))
 
+low-byte-requires : tie.Need-low-byte-requires
+low-byte-requires c κs = search needs
+
 same-length : tie.Need-same-length
 same-length c = search needs
 
@@ -48,14 +53,18 @@ same-length-2 : tie.Need-same-length-2
 same-length-2 c = search needs
 
 returns-2 : tie.Need-returns-2
-unfolding done actOf given
+unfolding done actOf given wrote
 returns-2 c =
-    let at-write = c .before .before .before .before in
+    let at-write = c .before .before .before .before .before in
     let at-if1 = at-write .before .before .before .before in
     let at-test = at-if1 .before in
-    (performed (here at-test) (event at-test) 0 _ (accepted at-if1) refl (at-write .write .ensures), λ n. absurd (n refl))
+    let a = began at-test .args in
+    let ok = accepted at-if1 in
+    let four = write-mask-four (here at-test) (a .reg) (a .odd) (a .byte) (accepted-in-range (here at-test) (event at-test) ok) in
+    let done = at-write .write .ensures in
+    (performed (here at-test) (event at-test) 0 _ _ ok refl (byte-mask (c .low-byte .ensures) (done .1) four) (done .0), λ n. absurd (n refl))
 
 pub write-byte-spec : {M : Type 1} → statement M
 write-byte-spec =
     tie.close
-    (tie.spec write-refusal-requires returns write-requires same-length same-length-2 returns-2)
+    (tie.spec write-refusal-requires returns write-requires low-byte-requires same-length same-length-2 returns-2)

@@ -35,7 +35,11 @@ returns c =
     let e = start .args .e in
     let word = at-fetch .fetch .ensures in
     let s = at-source .source .ensures ∙ ap (sourced e) word in
-    (word, rw (← s, ← at-combined .combined .ensures) (at-store-bits .store-bits .ensures _ (at-write-bits .write-bits .ensures)))
+    record {
+      took = word;
+      wrote = rw (← s) (at-write-bits .write-bits .ensures);
+      leaves = rw (← s, ← at-combined .combined .ensures) (at-store-bits .store-bits .ensures _ (at-write-bits .write-bits .ensures));
+    }
 
 pub draw-spec : {M : Type 1} → statement M
 draw-spec =

@@ -45,7 +45,7 @@ same-length c =
     let at-loop = at-run-inside .before .before .before in
     let so-far = going-trans (at-loop .loop .inv) (at-run-inside .run-inside .ensures) in
     let last = sym (c .before .last-step .ensures) ∙ c .if2 .taken in
-    drawn-ended so-far (omega (arith, at-if1 .if1 .left)) last (at-draw .draw .ensures .1) .vram-length
+    drawn-ended so-far (omega (arith, at-if1 .if1 .left)) last (at-draw .draw .ensures .leaves) .vram-length
 
 returns : tie.Need-returns Inv-loop μ-loop
 returns c =
@@ -55,7 +55,7 @@ returns c =
     let at-loop = at-run-inside .before .before .before in
     let so-far = going-trans (at-loop .loop .inv) (at-run-inside .run-inside .ensures) in
     let last = sym (c .before .last-step .ensures) ∙ c .if2 .taken in
-    ran-over _ refl (drawn-ended so-far (omega (arith, at-if1 .if1 .left)) last (at-draw .draw .ensures .1))
+    ran-over _ refl (drawn-ended so-far (omega (arith, at-if1 .if1 .left)) last (at-draw .draw .ensures .leaves))
 
 advance-requires : tie.Need-advance-requires Inv-loop μ-loop
 advance-requires c κs =
@@ -77,7 +77,7 @@ loop-again c =
     let at-loop = at-run-inside .before .before .before in
     let so-far = going-trans (at-loop .loop .inv) (at-run-inside .run-inside .ensures) in
     let not-last = sym (at-last-step .last-step .ensures) ∙ c .before .if2 .left in
-    going-drawn so-far (omega (arith, at-if1 .if1 .left)) not-last (at-draw .draw .ensures .0) (at-draw .draw .ensures .1) (c .advance .ensures)
+    going-drawn so-far (omega (arith, at-if1 .if1 .left)) not-last (at-draw .draw .ensures .took) (at-draw .draw .ensures .leaves) (c .advance .ensures)
 
 same-length-2 : tie.Need-same-length-2 Inv-loop μ-loop
 same-length-2 c = c .before .loop .inv .vram-length

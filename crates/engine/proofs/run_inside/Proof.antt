@@ -48,7 +48,8 @@ loop-again c =
     let at-loop-test = at-last-word .before .before .before in
     let at-loop = at-loop-test .before in
     let inside = inside-not-last _ (sym (at-last-word .last-word .ensures) ∙ at-if2 .if2 .left) in
-    going-drawn (at-loop .loop .inv) (at-loop-test .loop-test .taken) inside (at-draw .draw .ensures .0) (at-draw .draw .ensures .1) (c .advance .ensures)
+    let one = at-draw .draw .ensures in
+    going-drawn (at-loop .loop .inv) (at-loop-test .loop-test .taken) inside (one .took) (one .leaves) (c .advance .ensures)
 
 same-length : tie.Need-same-length Inv-loop μ-loop
 same-length c = c .before .loop .inv .vram-length

@@ -39,7 +39,7 @@ returns c =
     let at-store = c .before .before .before .before in
     let start = at-store .before .before .before .before .before .before in
     let stores = (22 takes c .wrapping-add-u16 .result) ∷ [] in
-    λ x. stored-adapter (start .args .s .now) (start .pre .0) stores refl _ x ∙ rw (c .wrapping-add-u16 .ensures, at-store .store .ensures)
+    (λ x. stored-adapter (start .args .s .now) (start .pre .0) stores refl _ x ∙ rw (c .wrapping-add-u16 .ensures, at-store .store .ensures), refl)
 
 pub write-spec : {M : Type 1} → statement M
 write-spec =

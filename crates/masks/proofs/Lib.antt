@@ -1,0 +1,3 @@
+-- Which nibbles a call wrote.
+pub mod NibbleLaws
+pub mod AnsweredMasks
