@@ -3,3 +3,4 @@ pub mod PlayedLists
 pub mod Playing
 pub mod OrderOfCalls
 pub mod StepsOfCalls
+pub mod MasksOfCalls
