@@ -13,8 +13,8 @@
 
 /* What a call can say. The lowest number that applies is given. A refused call leaves every word of
  * the state and of both memories as it was, a refused save every byte of the room; a refused read
- * gives byte 0, a refused step or run count 0, a refused line question no, a refused save length 0.
- */
+ * gives byte 0, a refused write mask 0, a refused step or run count 0 and mask 0, a refused line
+ * question no, a refused save length 0. */
 typedef enum xosera_refusal {
     XOSERA_DONE = 0,
     XOSERA_VRAM_LENGTH = 1,      /* VRAM is not a power of two of words from 256 to 65,536 */
@@ -127,9 +127,12 @@ typedef struct xosera_state {
 #define XOSERA_FILE_BYTES(vram_words) (XOSERA_FILE_VRAM_AT + 2 * (size_t)(vram_words))
 #define XOSERA_FILE_MAX               144562
 
-/* Answers: `refusal` is one of xosera_refusal. */
+/* Answers: `refusal` is one of xosera_refusal. `mask` says which nibbles of a VRAM word were
+ * written, also with the value that they had: bit 3 is bits 15:12, the leftmost pixel, bit 0 is
+ * 3:0. */
 typedef struct xosera_write_answer {
     uint8_t refusal;
+    uint8_t mask; /* odd write to XM_DATA or XM_DATA_2: the nibble mask; any other write: 0 */
 } xosera_write_answer;
 
 typedef struct xosera_read_answer {
@@ -139,6 +142,7 @@ typedef struct xosera_read_answer {
 
 typedef struct xosera_blit_answer {
     uint8_t refusal;
+    uint8_t mask;   /* of the last word done, after edges and colour test; 0 where none was */
     uint64_t count; /* words done */
 } xosera_blit_answer;
 
@@ -229,13 +233,15 @@ XOSERA_WORD(72, blit.shift);
 XOSERA_WORD(73, blit.lines);
 XOSERA_WORD(74, blit.words);
 
-XOSERA_SIZE(xosera_write_answer, 1);
+XOSERA_SIZE(xosera_write_answer, 2);
 XOSERA_AT(xosera_write_answer, refusal, 0);
+XOSERA_AT(xosera_write_answer, mask, 1);
 XOSERA_SIZE(xosera_read_answer, 2);
 XOSERA_AT(xosera_read_answer, refusal, 0);
 XOSERA_AT(xosera_read_answer, byte, 1);
 XOSERA_SIZE(xosera_blit_answer, 16);
 XOSERA_AT(xosera_blit_answer, refusal, 0);
+XOSERA_AT(xosera_blit_answer, mask, 1);
 XOSERA_AT(xosera_blit_answer, count, 8);
 XOSERA_SIZE(xosera_state_answer, 1);
 XOSERA_AT(xosera_state_answer, refusal, 0);

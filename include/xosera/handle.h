@@ -49,6 +49,11 @@ struct xosera {
     size_t xr_len;
     uint64_t blit_per_access; /* words that the blitter does after each byte accessed; at first 0 */
 
+    /* The mask that the last step, run or odd data write answered, 0 if it was refused. A wait for
+     * the blitter is a run. Every other access leaves it, and so do the words of blit_per_access,
+     * which the test does not ask for one by one. */
+    uint8_t mask;
+
     /* A refusal is never lost: the first one since xosera_clear_refusals stays, each is counted,
      * and the hook, unless NULL, is told of each at once. It may stop the test. */
     xosera_refused first_refused;
@@ -72,6 +77,7 @@ static inline void xosera_attach(xosera *x, uint16_t *vram, size_t vram_len, uin
     x->xr = xr;
     x->xr_len = xr_len;
     x->blit_per_access = 0;
+    x->mask = 0;
     x->first_refused = none;
     x->last_refused = none;
     x->refusals = 0;
@@ -106,6 +112,15 @@ static inline const char *xosera_refusal_text(unsigned refusal)
         return "VRAM of the saved adapter is not as long as the memory lent";
     default: return "unknown refusal";
     }
+}
+
+/* A mask in four marks, the leftmost nibble first: # written, . held back. */
+static inline const char *xosera_mask_text(unsigned mask)
+{
+    static const char *const marks[] = {"....", "...#", "..#.", "..##", ".#..", ".#.#",
+                                        ".##.", ".###", "#...", "#..#", "#.#.", "#.##",
+                                        "##..", "##.#", "###.", "####"};
+    return mask <= 15 ? marks[mask] : "????";
 }
 
 /* A hook that says what was refused and where, and ends the program. */
@@ -155,6 +170,7 @@ static inline uint64_t xosera_run(xosera *x, uint64_t n)
 {
     const xosera_blit_answer a =
         xosera_blit_run(&x->state, x->vram, x->vram_len, x->xr, x->xr_len, n);
+    x->mask = a.mask;
     xosera_note(x, a.refusal, XOSERA_CALL_RUN, 0, false, 0);
     return a.count;
 }
@@ -163,6 +179,7 @@ static inline uint64_t xosera_step(xosera *x)
 {
     const xosera_blit_answer a =
         xosera_blit_step(&x->state, x->vram, x->vram_len, x->xr, x->xr_len);
+    x->mask = a.mask;
     xosera_note(x, a.refusal, XOSERA_CALL_STEP, 0, false, 0);
     return a.count;
 }
@@ -211,15 +228,26 @@ static inline void xosera_wait_blit_ready(xosera *x)
     }
 }
 
-/* One byte, then the blitter's share of the time that it took. */
+/* The blitter's share of the time that a byte took. It leaves `mask`. */
+static inline void xosera_share(xosera *x)
+{
+    if (x->blit_per_access != 0) {
+        const xosera_blit_answer a =
+            xosera_blit_run(&x->state, x->vram, x->vram_len, x->xr, x->xr_len, x->blit_per_access);
+        xosera_note(x, a.refusal, XOSERA_CALL_RUN, 0, false, 0);
+    }
+}
+
+/* One byte, then the blitter's share. */
 static inline void xosera_set_byte(xosera *x, uint8_t reg, bool odd, uint8_t byte)
 {
     const xosera_write_answer a =
         xosera_write_byte(&x->state, x->vram, x->vram_len, x->xr, x->xr_len, reg, odd, byte);
-    xosera_note(x, a.refusal, XOSERA_CALL_WRITE, reg, odd, byte);
-    if (x->blit_per_access != 0) {
-        (void)xosera_run(x, x->blit_per_access);
+    if (odd && (reg == XM_DATA || reg == XM_DATA_2)) {
+        x->mask = a.mask;
     }
+    xosera_note(x, a.refusal, XOSERA_CALL_WRITE, reg, odd, byte);
+    xosera_share(x);
 }
 
 static inline uint8_t xosera_get_byte(xosera *x, uint8_t reg, bool odd)
@@ -227,9 +255,7 @@ static inline uint8_t xosera_get_byte(xosera *x, uint8_t reg, bool odd)
     const xosera_read_answer a =
         xosera_read_byte(&x->state, x->vram, x->vram_len, x->xr, x->xr_len, reg, odd);
     xosera_note(x, a.refusal, XOSERA_CALL_READ, reg, odd, 0);
-    if (x->blit_per_access != 0) {
-        (void)xosera_run(x, x->blit_per_access);
-    }
+    xosera_share(x);
     return a.byte;
 }
 
