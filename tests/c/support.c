@@ -26,6 +26,13 @@ void fill(uint16_t *words, size_t n, uint16_t seed)
     }
 }
 
+uint16_t random_word(void)
+{
+    static uint32_t seed = 1;
+    seed = seed * 1664525u + 1013904223u;
+    return (uint16_t)(seed >> 16);
+}
+
 xosera *adapter_new(size_t vram_len)
 {
     xosera *x = (xosera *)malloc(sizeof *x);

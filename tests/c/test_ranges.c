@@ -283,13 +283,6 @@ static void equal_states_are_equal_memory(void **state)
     adapter_free(y);
 }
 
-static uint32_t random_seed = 1;
-static uint16_t random_word(void)
-{
-    random_seed = random_seed * 1664525u + 1013904223u;
-    return (uint16_t)(random_seed >> 16);
-}
-
 /* Any words are in range, and served, or refused with 3. */
 static void words_are_served_or_refused(const xosera *x, const uint16_t *words, int *served)
 {

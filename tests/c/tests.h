@@ -35,6 +35,9 @@ extern const size_t vram_lengths[VRAM_LENGTHS];
 /* Memories full of words that are all different, or nearly so. */
 void fill(uint16_t *words, size_t n, uint16_t seed);
 
+/* Any word; the same ones in every run of the tests. */
+uint16_t random_word(void);
+
 /* Fails unless the two are equal word by word; names the word. */
 void assert_state_equal(const xosera_state *got, const xosera_state *want);
 
