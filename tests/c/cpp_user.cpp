@@ -30,7 +30,8 @@ int cpp_user()
     board_clear(0x10, 4, 0x7777); // C code sees the same adapter
     xwait_blit_done();
     xosera_use(before);
-    if (vram[0x10] != 0x7777 || vram[0x13] != 0x7777 || vram[0x14] != 0 || own.refusals != 0) {
+    if (vram[0x10] != 0x7777 || vram[0x13] != 0x7777 || vram[0x14] != 0 || own.refusals != 0 ||
+        own.mask != 0xF) {
         return 4;
     }
 

@@ -176,6 +176,13 @@ static void assert_state_refused(const xosera_state *s)
     assert_state_equal(&t, s);
 }
 
+static void assert_blit_refused(xosera_blit_answer a, xosera_refusal want)
+{
+    assert_int_equal(a.refusal, want);
+    assert_int_equal(a.count, 0);
+    assert_int_equal(a.mask, 0);
+}
+
 void assert_refused(const xosera *x, const xosera_state *s, size_t vram_len, size_t xr_len,
                     uint8_t reg, xosera_refusal want)
 {
@@ -185,6 +192,7 @@ void assert_refused(const xosera *x, const xosera_state *s, size_t vram_len, siz
         const xosera_write_answer w =
             xosera_write_byte(&t, x->vram, vram_len, x->xr, xr_len, reg, odd != 0, 0xA5);
         assert_int_equal(w.refusal, want);
+        assert_int_equal(w.mask, 0);
         assert_state_equal(&t, s);
         const xosera_read_answer r =
             xosera_read_byte(&t, x->vram, vram_len, x->xr, xr_len, reg, odd != 0);
@@ -193,13 +201,9 @@ void assert_refused(const xosera *x, const xosera_state *s, size_t vram_len, siz
         assert_state_equal(&t, s);
     }
     if (want <= XOSERA_STATE_RANGE) {
-        const xosera_blit_answer b = xosera_blit_step(&t, x->vram, vram_len, x->xr, xr_len);
-        assert_int_equal(b.refusal, want);
-        assert_int_equal(b.count, 0);
+        assert_blit_refused(xosera_blit_step(&t, x->vram, vram_len, x->xr, xr_len), want);
         assert_state_equal(&t, s);
-        const xosera_blit_answer r = xosera_blit_run(&t, x->vram, vram_len, x->xr, xr_len, 1000);
-        assert_int_equal(r.refusal, want);
-        assert_int_equal(r.count, 0);
+        assert_blit_refused(xosera_blit_run(&t, x->vram, vram_len, x->xr, xr_len, 1000), want);
         assert_state_equal(&t, s);
         assert_file_refused(x, s, vram_len, xr_len, want);
     }

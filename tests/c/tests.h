@@ -54,8 +54,8 @@ xosera_state mid_line_state(void);
 bool words_in_range(const uint16_t *words);
 
 /* Every call that can refuse with `want`, on a copy of the state and on the adapter's memories:
- * each answers it, with byte 0, count 0, length 0 or no, and leaves every word of all three as it
- * was. */
+ * each answers it, with byte 0, count 0, mask 0, length 0 or no, and leaves every word of all three
+ * as it was. */
 void assert_refused(const xosera *x, const xosera_state *s, size_t vram_len, size_t xr_len,
                     uint8_t reg, xosera_refusal want);
 
@@ -72,6 +72,7 @@ int edges_group(int *tests);
 int refusals_group(int *tests);
 int ranges_group(int *tests);
 int queue_group(int *tests);
+int masks_group(int *tests);
 int order_group(int *tests);
 int layout_group(int *tests);
 int saved_group(int *tests);
