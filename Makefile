@@ -73,7 +73,10 @@ test-c: test-headers build/plain/tests build/sanitized/tests build/cross build/b
 	@printf 'valgrind: '
 	@$(call run_tests,$(VALGRIND) build/plain/tests,build/plain/valgrind.log)
 	@build/cross -f | diff examples/cross/fault.txt -
-	@echo "examples/cross shows the fault as in examples/cross/fault.txt"
+	@build/cross -s | diff examples/cross/steps.txt -
+	@build/cross -s -f | diff examples/cross/fault_steps.txt -
+	@build/cross -f -s | diff examples/cross/fault_steps.txt -
+	@echo "examples/cross shows fault and single steps as in its fault.txt, steps.txt and fault_steps.txt"
 	@rm -f build/quick.saved
 	@printf 'examples/boot: '
 	@$(call run_tests,{ build/boot build/quick.saved 1 && build/boot build/quick.saved 1; },build/boot.log)

@@ -1,6 +1,7 @@
 #!/bin/sh
-# Builds the library and draws the telescope's cross, then the cross with last spring's fault; with
-# the argument boot, boots once, saves the adapter and loads it instead of a second boot.
+# Builds the library and draws the telescope's cross, then the cross with last spring's fault. With
+# the argument cross, runs that example with the arguments behind it, as in `cross -s -f`; with boot,
+# boots once, saves the adapter and loads it instead of a second boot.
 # Installs what Debian has and this machine lacks.
 set -eu
 cd "$(dirname "$0")/.."
@@ -10,4 +11,9 @@ need libc6-dev test -e /usr/include/stdint.h
 need make command -v make
 install_missing
 make lib
+if [ "${1:-}" = cross ]; then
+    shift
+    make -s build/cross
+    exec build/cross "$@"
+fi
 make "${1:-example}"

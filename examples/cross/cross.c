@@ -1,14 +1,16 @@
 /*
  * The telescope's cross, drawn by the blitter through the registers.
  *
- *   cross [-f] [X Y WIDTH [FILE]]
+ *   cross [-s] [-f] [X Y WIDTH [FILE]]
  *
  * The cross, with the pair of marks that says which way to turn, lies in VRAM as a picture of even
  * width. It is drawn at pixel X, Y of the field, cropped on its right to WIDTH pixels, odd or even.
  * The field is printed and, with FILE, written as a PNM picture. -f adds last spring's fault, a
  * crop that leaves the right edge mask as it was: the field before (X lit and o dark where it is
- * wrong), the wrong pixels, and the field after.
+ * wrong), the wrong pixels, and the field after. -s does the blit in single steps and lists first
+ * each word done, with the nibbles that it wrote; with -f those of both drawings side by side.
  */
+#include <stdbool.h>
 #include <stdio.h>
 #include <stdlib.h>
 #include <string.h>
@@ -19,6 +21,25 @@ enum { FIELD_W = 48, FIELD_H = 11, CROSS_H = 9, PITCH = FIELD_W / 4 /* words a l
 enum { FIELD = 0x0000, FAULTY = 0x2000, PICTURE = 0x4000 /* VRAM addresses */ };
 
 static uint16_t vram[XOSERA_VRAM_MAX], xr[XOSERA_XR_WORDS];
+
+typedef struct options {
+    bool steps, fault;
+    int x, y, width;
+    const char *file; /* NULL: none */
+} options;
+
+/* A word that the blitter did: its place in the blit, its VRAM address, the nibbles written. */
+typedef struct word_done {
+    int line, word;
+    unsigned address, mask;
+} word_done;
+
+/* A drawing: its VRAM address, the width that its right mask belongs to, and the words done in
+ * single steps. */
+typedef struct drawing {
+    int field, mask_width, words;
+    word_done done[CROSS_H * PITCH];
+} drawing;
 
 /* Both arms, and at the right end one mark above and one below, three pixels wide. */
 static int inked(int column, int row, int width)
@@ -61,6 +82,17 @@ static void draw_cross(int field, int x, int y, int width, int mask_width)
     xreg_setw(BLIT_SHIFT, MAKE_BLIT_SHIFT(first_mask, last_mask, shift));
     xreg_setw(BLIT_LINES, CROSS_H - 1);
     xreg_setw(BLIT_WORDS, words - 1); /* starts the blit */
+}
+
+static void draw(drawing *d, const options *o)
+{
+    xosera *const adapter = xosera_here();
+    draw_cross(d->field, o->x, o->y, o->width, d->mask_width);
+    while (o->steps && adapter->state.engine.running) {
+        const xosera_engine next = adapter->state.engine;
+        (void)xosera_step(adapter);
+        d->done[d->words++] = (word_done){next.line, next.word, next.regs.dst_d, adapter->mask};
+    }
     xwait_blit_done();
 }
 
@@ -96,16 +128,75 @@ static void put_wrong_pixels(void)
     printf("wrong pixels: %d\n", count);
 }
 
+/* A row for each word, with what the drawings wrote there side by side. */
+static void put_words(const drawing *d, int drawings)
+{
+    printf("each word done: # nibble written, . held back\n%10s", "");
+    for (int i = 0; i < drawings; i++) {
+        printf("  right mask of %2d", d[i].mask_width);
+    }
+    printf("\nline  word");
+    for (int i = 0; i < drawings; i++) {
+        printf("  address  written");
+    }
+    putchar('\n');
+    for (int w = 0; w < d->words; w++) {
+        printf("%4d  %4d", d->done[w].line, d->done[w].word);
+        for (int i = 0; i < drawings; i++) {
+            printf("   0x%04X     %s", d[i].done[w].address, xosera_mask_text(d[i].done[w].mask));
+        }
+        puts(d->done[w].mask != d[drawings - 1].done[w].mask ? "  differs" : "");
+    }
+    putchar('\n');
+}
+
+static int even_width(int width)
+{
+    return width + width % 2;
+}
+
+/* False unless the arguments are as the usage says. */
+static bool read_options(options *o, int argc, char **argv)
+{
+    int i = 1;
+    for (; i < argc && argv[i][0] == '-'; i++) {
+        if (strcmp(argv[i], "-s") == 0) {
+            o->steps = true;
+        } else if (strcmp(argv[i], "-f") == 0) {
+            o->fault = true;
+        } else {
+            return false;
+        }
+    }
+    const int n = argc - i;
+    if (n >= 3) {
+        o->x = atoi(argv[i]);
+        o->y = atoi(argv[i + 1]);
+        o->width = atoi(argv[i + 2]);
+        o->file = argv[i + 3]; /* NULL where the arguments end */
+    }
+    return (n == 0 || n == 3 || n == 4) && 1 <= o->width && o->width <= FIELD_W && 0 <= o->x &&
+           o->x <= FIELD_W - even_width(o->width) && 0 <= o->y && o->y <= FIELD_H - CROSS_H;
+}
+
+static int write_picture(const char *name, int field)
+{
+    FILE *const file = fopen(name, "w");
+    if (file == NULL || fprintf(file, "P1\n%d %d\n", FIELD_W, FIELD_H) < 0) {
+        perror(name);
+        return 1;
+    }
+    put_field(file, field, "0101");
+    fclose(file);
+    return 0;
+}
+
 int main(int argc, char **argv)
 {
-    const int fault = argc > 1 && strcmp(argv[1], "-f") == 0;
-    char **const args = argv + 1 + fault;
-    const int n = argc - 1 - fault;
-    const int x = n >= 3 ? atoi(args[0]) : 10, y = n >= 3 ? atoi(args[1]) : 1;
-    const int width = n >= 3 ? atoi(args[2]) : 21, even = width + width % 2;
-    if ((n != 0 && n != 3 && n != 4) || width < 1 || x < 0 || y < 0 || x + even > FIELD_W ||
-        y + CROSS_H > FIELD_H) {
-        fprintf(stderr, "usage: cross [-f] [X Y WIDTH [FILE]], inside %d by %d pixels, %d high\n",
+    options o = {.x = 10, .y = 1, .width = 21};
+    if (!read_options(&o, argc, argv)) {
+        fprintf(stderr,
+                "usage: cross [-s] [-f] [X Y WIDTH [FILE]], inside %d by %d pixels, %d high\n",
                 FIELD_W, FIELD_H, CROSS_H);
         return 2;
     }
@@ -115,24 +206,22 @@ int main(int argc, char **argv)
     adapter.on_refusal = xosera_abort_on_refusal;
     xosera_use(&adapter);
 
+    const int even = even_width(o.width), first = o.fault ? 0 : 1;
+    drawing drawings[2] = {{.field = FAULTY, .mask_width = even},
+                           {.field = FIELD, .mask_width = o.width}};
     store_picture(even);
-    draw_cross(FIELD, x, y, width, width);
-    if (fault) {
-        draw_cross(FAULTY, x, y, width, even);
-        printf("before: cropped to %d, right mask still that of %d\n", width, even);
+    for (int i = first; i < 2; i++) {
+        draw(&drawings[i], &o);
+    }
+    if (o.steps) {
+        put_words(drawings + first, 2 - first);
+    }
+    if (o.fault) {
+        printf("before: cropped to %d, right mask still that of %d\n", o.width, even);
         put_field(stdout, FAULTY, ".#oX");
         put_wrong_pixels();
-        printf("after: right mask of %d\n", width);
+        printf("after: right mask of %d\n", o.width);
     }
     put_field(stdout, FIELD, ".#oX");
-    if (n == 4) {
-        FILE *const file = fopen(args[3], "w");
-        if (file == NULL || fprintf(file, "P1\n%d %d\n", FIELD_W, FIELD_H) < 0) {
-            perror(args[3]);
-            return 1;
-        }
-        put_field(file, fault ? FAULTY : FIELD, "0101");
-        fclose(file);
-    }
-    return 0;
+    return o.file == NULL ? 0 : write_picture(o.file, drawings[first].field);
 }
