@@ -74,42 +74,53 @@ impl State {
         Ok(count)
     }
 
+    /// One word, by the chapter's five points.
     fn do_word(&mut self, vram: &mut [u16]) {
-        // 1 and 2: the source word, shifted.
-        let constant = self.copied.ctrl & 1 == 1;
-        let s = if constant {
-            self.kept = 0;
-            self.copied.src_s
-        } else {
-            let read = vram[place(self.copied.src_s, vram.len())];
-            self.copied.src_s = self.copied.src_s.wrapping_add(1);
-            let s = shifted(self.kept, read, self.copied.shift % 4);
-            self.kept = read;
-            s
-        };
-
-        // 3: the result.
+        let s = self.source(vram);
         let result = (s & !self.copied.andc) ^ self.copied.xor;
+        let at = place(self.copied.dst_d, vram.len());
+        vram[at] = masked(vram[at], result, self.not_held_back(s));
+        self.go_on();
+    }
 
-        // 4: the nibbles that are not held back.
-        let first = self.word == 0;
-        let last = self.word == self.copied.words;
+    /// 1 and 2: the source word, shifted.
+    fn source(&mut self, vram: &[u16]) -> u16 {
+        let constant = self.copied.ctrl & 1 == 1;
+        if constant {
+            self.kept = 0;
+            return self.copied.src_s;
+        }
+        let read = vram[place(self.copied.src_s, vram.len())];
+        self.copied.src_s = self.copied.src_s.wrapping_add(1);
+        let s = shifted(self.kept, read, self.copied.shift % 4);
+        self.kept = read;
+        s
+    }
+
+    /// Is this word its line's last?
+    fn is_last(&self) -> bool {
+        self.word == self.copied.words
+    }
+
+    /// 4: a four-bit mask of the nibbles that are not held back.
+    fn not_held_back(&self, s: u16) -> u16 {
         let mut mask = 0b1111;
-        if first {
+        if self.word == 0 {
             mask &= self.copied.shift / 0x1000;
         }
-        if last {
+        if self.is_last() {
             mask &= self.copied.shift / 0x100 % 16;
         }
         if self.copied.ctrl >> 4 & 1 == 1 {
             mask &= !colour_held(s, self.copied.ctrl);
         }
-        let at = place(self.copied.dst_d, vram.len());
-        vram[at] = masked(vram[at], result, mask);
+        mask
+    }
 
-        // 5: on to the next word, line, or blit.
+    /// 5: on to the next word, line, or blit.
+    fn go_on(&mut self) {
         self.copied.dst_d = self.copied.dst_d.wrapping_add(1);
-        if !last {
+        if !self.is_last() {
             self.word += 1;
             return;
         }

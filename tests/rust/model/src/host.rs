@@ -31,6 +31,12 @@ impl State {
         if reg == 1 && word >= 0x8000 {
             return Err(Refusal::Reconfigure);
         }
+        self.act(vram, xr, reg, word);
+        Ok(())
+    }
+
+    /// What an odd write does with its word.
+    fn act(&mut self, vram: &mut [u16], xr: &mut [u16], reg: u8, word: u16) {
         match reg {
             0 => self.nibble_mask = (word % 16) as u8,
             1 => {
@@ -64,7 +70,6 @@ impl State {
             }
             _ => {}
         }
-        Ok(())
     }
 
     /// The host reads a byte: the high byte at an even read, the low byte at an odd one, which then
