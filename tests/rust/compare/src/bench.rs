@@ -89,7 +89,7 @@ const PLAIN: Calls<model::State> = Calls {
 mod plain {
     use std::slice::{from_raw_parts, from_raw_parts_mut};
 
-    use model::{Refusal, State};
+    use model::{Blitted, Refusal, State};
     use xosera::{
         BlitAnswer, LineAnswer, LoadAnswer, ReadAnswer, SaveAnswer, StateAnswer, WriteAnswer,
     };
@@ -99,6 +99,15 @@ mod plain {
         match answer {
             Ok(value) => (0, value),
             Err(refusal) => (refusal as u8, T::default()),
+        }
+    }
+
+    fn blitted(answer: Result<Blitted, Refusal>) -> BlitAnswer {
+        let (refusal, Blitted { count, mask }) = said(answer);
+        BlitAnswer {
+            refusal,
+            mask,
+            count,
         }
     }
 
@@ -116,8 +125,8 @@ mod plain {
     ) -> WriteAnswer {
         let vram = from_raw_parts_mut(vram, vram_len);
         let xr = from_raw_parts_mut(xr, xr_len);
-        let (refusal, ()) = said((*s).write_byte(vram, xr, reg, odd, byte));
-        WriteAnswer { refusal }
+        let (refusal, mask) = said((*s).write_byte(vram, xr, reg, odd, byte));
+        WriteAnswer { refusal, mask }
     }
 
     #[inline(never)]
@@ -146,8 +155,7 @@ mod plain {
     ) -> BlitAnswer {
         let vram = from_raw_parts_mut(vram, vram_len);
         let xr = from_raw_parts(xr, xr_len);
-        let (refusal, count) = said((*s).blit_step(vram, xr));
-        BlitAnswer { refusal, count }
+        blitted((*s).blit_step(vram, xr))
     }
 
     #[inline(never)]
@@ -161,8 +169,7 @@ mod plain {
     ) -> BlitAnswer {
         let vram = from_raw_parts_mut(vram, vram_len);
         let xr = from_raw_parts(xr, xr_len);
-        let (refusal, count) = said((*s).blit_run(vram, xr, n));
-        BlitAnswer { refusal, count }
+        blitted((*s).blit_run(vram, xr, n))
     }
 
     #[inline(never)]
@@ -270,7 +277,8 @@ struct Run;
 impl Work for Run {
     fn done_by<S>(&self, m: &mut Side<S>) -> u64 {
         let (v, vn, x, xn) = (m.vram.as_mut_ptr(), m.vram.len(), m.xr.as_ptr(), m.xr.len());
-        unsafe { (m.calls.blit_run)(&mut m.state, v, vn, x, xn, u64::MAX).count }
+        let a = unsafe { (m.calls.blit_run)(&mut m.state, v, vn, x, xn, u64::MAX) };
+        a.count << 8 | u64::from(a.mask)
     }
 }
 
@@ -280,11 +288,12 @@ struct Steps;
 impl Work for Steps {
     fn done_by<S>(&self, m: &mut Side<S>) -> u64 {
         let (v, vn, x, xn) = (m.vram.as_mut_ptr(), m.vram.len(), m.xr.as_ptr(), m.xr.len());
-        let mut count = 0;
+        let mut sum = 0;
         for _ in 0..CALLS {
-            count += unsafe { (m.calls.blit_step)(&mut m.state, v, vn, x, xn).count };
+            let a = unsafe { (m.calls.blit_step)(&mut m.state, v, vn, x, xn) };
+            sum = mixed(sum, a.count as u8, a.mask);
         }
-        count
+        sum
     }
 }
 
@@ -299,13 +308,13 @@ impl Work for Writes {
             m.xr.as_mut_ptr(),
             m.xr.len(),
         );
-        let mut refused = 0;
+        let mut sum = 0;
         for i in 0..CALLS {
             let (odd, byte) = (i % 2 == 1, i as u8);
             let a = unsafe { (m.calls.write_byte)(&mut m.state, v, vn, x, xn, self.0, odd, byte) };
-            refused += u64::from(a.refusal);
+            sum = mixed(sum, a.refusal, a.mask);
         }
-        refused
+        sum
     }
 }
 
@@ -433,8 +442,9 @@ impl Work for Load {
     }
 }
 
-fn mixed(sum: u64, refusal: u8, value: u8) -> u64 {
-    sum.rotate_left(1) ^ u64::from(refusal) << 8 ^ u64::from(value)
+/// The sum with an answer's two parts in it.
+fn mixed(sum: u64, upper: u8, lower: u8) -> u64 {
+    sum.rotate_left(1) ^ u64::from(upper) << 8 ^ u64::from(lower)
 }
 
 /// Print the rates of the library and of the plain model, and their ratio.

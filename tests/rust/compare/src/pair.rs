@@ -19,12 +19,21 @@ pub enum Call {
     Line,
 }
 
-/// What a call says beside the state: the refusal, and a byte, a count, a length, or 1 for a line that
-/// is up.
+/// What a call says beside the state: the refusal; a byte, a count, a length, or 1 for a line that is
+/// up; the mask of a write, a step or a run.
 #[derive(Clone, Copy, Debug, PartialEq, Eq)]
 pub struct Said {
     pub refusal: u8,
     pub value: u64,
+    pub mask: u8,
+}
+
+fn said(refusal: u8, value: u64, mask: u8) -> Said {
+    Said {
+        refusal,
+        value,
+        mask,
+    }
 }
 
 /// How many words of each memory a call is lent.
@@ -137,7 +146,7 @@ impl Pair {
         self.model_xr.words.clone_from(&self.library_xr.words);
     }
 
-    /// Do one call on both sides. Every word of the state, answer, refusal and every word of both
+    /// Do one call on both sides. Every word of the state, answer, mask, refusal and every word of both
     /// memories, also those not lent, must agree; a refusal must leave all of them as they were. The
     /// state after it.
     pub fn call(
@@ -177,15 +186,12 @@ impl Pair {
         let xr = self.library_xr.lent(lent.xr);
         let inner = MARGIN..MARGIN + room;
         let a = xosera::save(&fenced.state, vram, xr, &mut library_room[inner.clone()]);
-        let said = Said {
-            refusal: a.refusal,
-            value: a.length,
-        };
+        let said = said(a.refusal, a.length, 0);
         let vram = self.model_vram.lent(lent.vram);
         let xr = self.model_xr.lent(lent.xr);
         let s = typed(before.words()).unwrap_or_else(misfit);
         let answer = s.save(vram, xr, &mut model_room[inner]);
-        let model = outcome(before.words(), &s, answer);
+        let model = outcome(before.words(), &s, answer.map(|length| (length, 0)));
 
         let what = self.difference(&fenced, said, model).or_else(|| {
             let (front, end) = (MARGIN, MARGIN + said.value as usize);
@@ -227,14 +233,12 @@ impl Pair {
         let mut fenced = Fenced::new(before);
         let vram = self.library_vram.lent(lent.vram);
         let xr = self.library_xr.lent(lent.xr);
-        let said = Said {
-            refusal: xosera::load(&mut fenced.state, vram, xr, file).refusal,
-            value: 0,
-        };
+        let a = xosera::load(&mut fenced.state, vram, xr, file);
+        let said = said(a.refusal, 0, 0);
         let vram = self.model_vram.lent(lent.vram);
         let xr = self.model_xr.lent(lent.xr);
         let mut s = typed(before.words()).unwrap_or_else(misfit);
-        let answer = s.load(vram, xr, file).map(|()| 0);
+        let answer = s.load(vram, xr, file).map(|()| (0, 0));
         let model = outcome(before.words(), &s, answer);
 
         let what = self.difference(&fenced, said, model).or_else(|| {
@@ -301,18 +305,25 @@ impl Pair {
         let vram = self.model_vram.lent(lent.vram);
         let xr = self.model_xr.lent(lent.xr);
         let mut s = typed(before).unwrap_or_else(misfit);
+        let blitted = |b: model::Blitted| (b.count, b.mask);
         let answer = match call {
             Call::Reset => {
                 s = model::State::reset();
-                Ok(0)
+                Ok((0, 0))
             }
-            Call::Write { reg, odd, byte } => s.write_byte(vram, xr, reg, odd, byte).map(|()| 0),
-            Call::Read { reg, odd } => s.read_byte(vram, xr, reg, odd).map(u64::from),
-            Call::Step => s.blit_step(vram, xr),
-            Call::Run { n } => s.blit_run(vram, xr, n),
-            Call::Tick => s.timer_tick().map(|()| 0),
-            Call::FrameEnd => s.frame_end().map(|()| 0),
-            Call::Line => s.interrupt_line().map(u64::from),
+            Call::Write { reg, odd, byte } => {
+                let answer = s.write_byte(vram, xr, reg, odd, byte);
+                answer.map(|mask| (0, mask))
+            }
+            Call::Read { reg, odd } => {
+                let answer = s.read_byte(vram, xr, reg, odd);
+                answer.map(|byte| (u64::from(byte), 0))
+            }
+            Call::Step => s.blit_step(vram, xr).map(blitted),
+            Call::Run { n } => s.blit_run(vram, xr, n).map(blitted),
+            Call::Tick => s.timer_tick().map(|()| (0, 0)),
+            Call::FrameEnd => s.frame_end().map(|()| (0, 0)),
+            Call::Line => s.interrupt_line().map(|up| (u64::from(up), 0)),
         };
         outcome(before, &s, answer)
     }
@@ -326,49 +337,40 @@ impl Pair {
     }
 }
 
-/// The model after a call. Where it refused, its words are those before.
-fn outcome(before: &Words, after: &model::State, answer: Result<u64, model::Refusal>) -> Outcome {
+/// The value and the mask, or the refusal.
+type Answer = Result<(u64, u8), model::Refusal>;
+
+/// The model after a call. Where it refused, its words are those before, value and mask 0.
+fn outcome(before: &Words, after: &model::State, answer: Answer) -> Outcome {
     match answer {
-        Ok(value) => (words(after), Said { refusal: 0, value }),
-        Err(refusal) => (
-            *before,
-            Said {
-                refusal: refusal as u8,
-                value: 0,
-            },
-        ),
+        Ok((value, mask)) => (words(after), said(0, value, mask)),
+        Err(refusal) => (*before, said(refusal as u8, 0, 0)),
     }
 }
 
 /// One call to the library: what it says.
 pub fn on_library(s: &mut xosera::State, vram: &mut [u16], xr: &mut [u16], call: Call) -> Said {
-    let said = |refusal, value| Said { refusal, value };
+    let blitted = |a: xosera::BlitAnswer| said(a.refusal, a.count, a.mask);
     match call {
         Call::Reset => {
             xosera::reset(s);
-            said(0, 0)
+            said(0, 0, 0)
         }
         Call::Write { reg, odd, byte } => {
             let a = xosera::write_byte(s, vram, xr, reg, odd, byte);
-            said(a.refusal, 0)
+            said(a.refusal, 0, a.mask)
         }
         Call::Read { reg, odd } => {
             let a = xosera::read_byte(s, vram, xr, reg, odd);
-            said(a.refusal, u64::from(a.byte))
+            said(a.refusal, u64::from(a.byte), 0)
         }
-        Call::Step => {
-            let a = xosera::blit_step(s, vram, xr);
-            said(a.refusal, a.count)
-        }
-        Call::Run { n } => {
-            let a = xosera::blit_run(s, vram, xr, n);
-            said(a.refusal, a.count)
-        }
-        Call::Tick => said(xosera::timer_tick(s).refusal, 0),
-        Call::FrameEnd => said(xosera::frame_end(s).refusal, 0),
+        Call::Step => blitted(xosera::blit_step(s, vram, xr)),
+        Call::Run { n } => blitted(xosera::blit_run(s, vram, xr, n)),
+        Call::Tick => said(xosera::timer_tick(s).refusal, 0, 0),
+        Call::FrameEnd => said(xosera::frame_end(s).refusal, 0, 0),
         Call::Line => {
             let a = xosera::interrupt_line(s);
-            said(a.refusal, u64::from(a.up))
+            said(a.refusal, u64::from(a.up), 0)
         }
     }
 }

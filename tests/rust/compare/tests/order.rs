@@ -48,13 +48,8 @@ fn footprint(started: &Adapter) -> Footprint {
             f.reads[x.place(regs.src_s)] = true;
         }
         f.writes[x.place(regs.dst_d)] = true;
-        assert_eq!(
-            x.call(Call::Step),
-            Said {
-                refusal: 0,
-                value: 1
-            }
-        );
+        let said = x.call(Call::Step);
+        assert_eq!((said.refusal, said.value), (0, 1));
         f.words += 1;
     }
     f

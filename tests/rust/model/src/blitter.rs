@@ -1,8 +1,16 @@
-//! "The blitter": starting, queueing, and one word at a time.
+//! "The blitter": starting, queueing, and one word at a time. Change request 2: its mask is answered.
 
 use crate::{masked, nibble, place, Blit, Refusal, State};
 
 const BLITTER: u8 = 1 << 6;
+
+/// What a step or a run answers: the words done, and the four-bit mask of the nibbles that the last of
+/// them wrote, 0 if it did none.
+#[derive(Clone, Copy, Debug, Default, PartialEq, Eq)]
+pub struct Blitted {
+    pub count: u64,
+    pub mask: u8,
+}
 
 /// Words left in the running blit and in the queued one.
 pub fn words_left(s: &State) -> u64 {
@@ -54,33 +62,35 @@ impl State {
     }
 
     /// One blit step: one word. Counts 1, or 0 when idle.
-    pub fn blit_step(&mut self, vram: &mut [u16], xr: &[u16]) -> Result<u64, Refusal> {
+    pub fn blit_step(&mut self, vram: &mut [u16], xr: &[u16]) -> Result<Blitted, Refusal> {
         self.check(vram, xr)?;
         if !self.running {
-            return Ok(0);
+            return Ok(Blitted { count: 0, mask: 0 });
         }
-        self.do_word(vram);
-        Ok(1)
+        let mask = self.do_word(vram);
+        Ok(Blitted { count: 1, mask })
     }
 
     /// A run of up to `n` steps; counts those that did a word.
-    pub fn blit_run(&mut self, vram: &mut [u16], xr: &[u16], n: u64) -> Result<u64, Refusal> {
+    pub fn blit_run(&mut self, vram: &mut [u16], xr: &[u16], n: u64) -> Result<Blitted, Refusal> {
         self.check(vram, xr)?;
-        let mut count = 0;
+        let (mut count, mut mask) = (0, 0);
         while count < n && self.running {
-            self.do_word(vram);
+            mask = self.do_word(vram);
             count += 1;
         }
-        Ok(count)
+        Ok(Blitted { count, mask })
     }
 
-    /// One word, by the chapter's five points.
-    fn do_word(&mut self, vram: &mut [u16]) {
+    /// One word, by the chapter's five points; its mask.
+    fn do_word(&mut self, vram: &mut [u16]) -> u8 {
         let s = self.source(vram);
         let result = (s & !self.copied.andc) ^ self.copied.xor;
+        let mask = self.not_held_back(s);
         let at = place(self.copied.dst_d, vram.len());
-        vram[at] = masked(vram[at], result, self.not_held_back(s));
+        vram[at] = masked(vram[at], result, mask);
         self.go_on();
+        mask as u8
     }
 
     /// 1 and 2: the source word, shifted.
@@ -184,5 +194,47 @@ mod tests {
     fn the_colour_test_holds_back_equal_nibbles_or_bytes() {
         assert_eq!(colour_held(0x0B0A, 0x0A10), 0b1011);
         assert_eq!(colour_held(0x0B0A, 0x0A30), 0b0011);
+    }
+    /// An adapter with these blits started, one running and one queued at most.
+    fn started(blits: &[[u16; 10]]) -> (State, Vec<u16>, Vec<u16>) {
+        let mut s = State::reset();
+        for blit in blits {
+            for (i, &word) in blit.iter().enumerate() {
+                s.blit_write(i, word);
+            }
+        }
+        (s, vec![0xFFFF; 256], vec![0; crate::XR_WORDS])
+    }
+
+    #[test]
+    fn a_step_answers_the_mask_after_edges_and_colour_test() {
+        // Two lines of two words, edges 7 and E; the second line's constant is 1 more, 0x0B0B.
+        let (mut s, mut vram, xr) = started(&[[0x0A11, 0, 0, 1, 0x0B0A, 0, 0, 0x7E00, 1, 1]]);
+        for mask in [0b0100, 0b0100, 0b0101, 0b0100] {
+            assert_eq!(s.blit_step(&mut vram, &xr), Ok(Blitted { count: 1, mask }));
+        }
+        assert_eq!(vram[..4], [0xFBFF, 0xFBFF, 0xFBFB, 0xFBFF]);
+        let idle = Blitted { count: 0, mask: 0 };
+        assert_eq!(s.blit_step(&mut vram, &xr), Ok(idle));
+        assert_eq!(s.blit_step(&mut [], &xr), Err(Refusal::VramLength));
+    }
+
+    #[test]
+    fn a_run_answers_the_mask_of_its_last_word() {
+        // Three words, then two of the queued blit.
+        let blits = [
+            [1, 0, 0, 0, 0x1234, 0, 0, 0x7E00, 0, 2],
+            [1, 0, 0, 0, 0x5678, 0, 8, 0x3C00, 0, 1],
+        ];
+        for (n, mask) in (0..).zip([0, 0x7, 0xF, 0xE, 0x3, 0xC, 0xC]) {
+            let (mut s, mut vram, xr) = started(&blits);
+            let count = n.min(5);
+            assert_eq!(
+                s.blit_run(&mut vram, &xr, n),
+                Ok(Blitted { count, mask }),
+                "a run of {}",
+                n
+            );
+        }
     }
 }

@@ -1,4 +1,5 @@
-//! "Host bytes": the sixteen main registers, the timer and the interrupt line.
+//! "Host bytes": the sixteen main registers, the timer and the interrupt line. Change request 2: a data
+//! write answers its mask.
 
 use crate::{masked, place, Refusal, State};
 
@@ -7,7 +8,7 @@ const TIMER: u8 = 1 << 5;
 
 impl State {
     /// The host writes a byte. An even write only fills the register's latch; an odd write acts on
-    /// latch x 256 + byte.
+    /// latch x 256 + byte. An odd data write answers its mask, every other 0.
     pub fn write_byte(
         &mut self,
         vram: &mut [u16],
@@ -15,14 +16,14 @@ impl State {
         reg: u8,
         odd: bool,
         byte: u8,
-    ) -> Result<(), Refusal> {
+    ) -> Result<u8, Refusal> {
         self.check(vram, xr)?;
         if reg > 15 {
             return Err(Refusal::NoRegister);
         }
         if !odd {
             self.latch[reg as usize] = byte;
-            return Ok(());
+            return Ok(0);
         }
         let word = self.latch[reg as usize] as u16 * 256 + byte as u16;
         if reg == 5 && self.queued && (0x40..=0x49).contains(&self.wr_xaddr) {
@@ -31,12 +32,11 @@ impl State {
         if reg == 1 && word >= 0x8000 {
             return Err(Refusal::Reconfigure);
         }
-        self.act(vram, xr, reg, word);
-        Ok(())
+        Ok(self.act(vram, xr, reg, word))
     }
 
-    /// What an odd write does with its word.
-    fn act(&mut self, vram: &mut [u16], xr: &mut [u16], reg: u8, word: u16) {
+    /// What an odd write does with its word; the mask of a data write, or 0.
+    fn act(&mut self, vram: &mut [u16], xr: &mut [u16], reg: u8, word: u16) -> u8 {
         match reg {
             0 => self.nibble_mask = (word % 16) as u8,
             1 => {
@@ -67,9 +67,11 @@ impl State {
                 let at = place(self.wr_addr, vram.len());
                 vram[at] = masked(vram[at], word, self.nibble_mask as u16);
                 self.wr_addr = self.wr_addr.wrapping_add(self.wr_incr);
+                return self.nibble_mask;
             }
             _ => {}
         }
+        0
     }
 
     /// The host reads a byte: the high byte at an even read, the low byte at an odd one, which then

@@ -10,7 +10,7 @@ mod saved;
 mod state;
 mod xr;
 
-pub use blitter::words_left;
+pub use blitter::{words_left, Blitted};
 pub use state::{Blit, Refusal, State};
 
 /// Words of XR memory: tile 5,120, colour 512, copper 1,024.

@@ -2,7 +2,7 @@
 
 use std::fmt;
 
-use crate::{saved_bytes, State, XR_WORDS};
+use crate::{saved_bytes, BlitAnswer, State, XR_WORDS};
 
 /// A refused call, by its number in document 01's table. It changed nothing.
 #[derive(Clone, Copy, Debug, PartialEq, Eq)]
@@ -36,6 +36,19 @@ fn done<T>(answer: T, refusal: u8) -> Result<T, Refusal> {
     }
 }
 
+/// What a step or a run did: so many words, and of the last of them the nibbles in the mask, whose bit 3
+/// stands for bits 15:12. The mask of no word is 0.
+#[derive(Clone, Copy, Debug, Default, PartialEq, Eq)]
+pub struct Blitted {
+    pub count: u64,
+    pub mask: u8,
+}
+
+fn blitted(a: BlitAnswer) -> Result<Blitted, Refusal> {
+    let (count, mask) = (a.count, a.mask);
+    done(Blitted { count, mask }, a.refusal)
+}
+
 /// An adapter that owns its memories. All fields are open: a test may set up any situation.
 #[derive(Clone, Debug, PartialEq, Eq)]
 pub struct Adapter {
@@ -54,9 +67,11 @@ impl Adapter {
         }
     }
 
-    pub fn write_byte(&mut self, reg: u8, odd: bool, byte: u8) -> Result<(), Refusal> {
+    /// The mask of the nibbles that an odd data write wrote; 0 of any other write.
+    pub fn write_byte(&mut self, reg: u8, odd: bool, byte: u8) -> Result<u8, Refusal> {
         let (s, vram, xr) = (&mut self.state, &mut self.vram, &mut self.xr);
-        done((), crate::write_byte(s, vram, xr, reg, odd, byte).refusal)
+        let a = crate::write_byte(s, vram, xr, reg, odd, byte);
+        done(a.mask, a.refusal)
     }
 
     pub fn read_byte(&mut self, reg: u8, odd: bool) -> Result<u8, Refusal> {
@@ -64,8 +79,8 @@ impl Adapter {
         done(a.byte, a.refusal)
     }
 
-    /// The even byte, then the odd one.
-    pub fn write_word(&mut self, reg: u8, word: u16) -> Result<(), Refusal> {
+    /// The even byte, then the odd one, whose mask is given.
+    pub fn write_word(&mut self, reg: u8, word: u16) -> Result<u8, Refusal> {
         self.write_byte(reg, false, (word >> 8) as u8)?;
         self.write_byte(reg, true, (word & 0xFF) as u8)
     }
@@ -80,7 +95,8 @@ impl Adapter {
     /// Write a word in the XR space.
     pub fn write_xr(&mut self, xaddr: u16, word: u16) -> Result<(), Refusal> {
         self.write_word(crate::XM_WR_XADDR, xaddr)?;
-        self.write_word(crate::XM_XDATA, word)
+        self.write_word(crate::XM_XDATA, word)?;
+        Ok(())
     }
 
     /// Read a word in the XR space.
@@ -89,16 +105,16 @@ impl Adapter {
         self.read_word(crate::XM_XDATA)
     }
 
-    /// One word of blitting; 1, or 0 when idle.
-    pub fn blit_step(&mut self) -> Result<u64, Refusal> {
-        let a = crate::blit_step(&mut self.state, &mut self.vram, &self.xr);
-        done(a.count, a.refusal)
+    /// One word of blitting; none when idle.
+    pub fn blit_step(&mut self) -> Result<Blitted, Refusal> {
+        let (s, vram, xr) = (&mut self.state, &mut self.vram, &self.xr);
+        blitted(crate::blit_step(s, vram, xr))
     }
 
-    /// Up to `n` words of blitting; how many were done.
-    pub fn blit_run(&mut self, n: u64) -> Result<u64, Refusal> {
-        let a = crate::blit_run(&mut self.state, &mut self.vram, &self.xr, n);
-        done(a.count, a.refusal)
+    /// Up to `n` words of blitting.
+    pub fn blit_run(&mut self, n: u64) -> Result<Blitted, Refusal> {
+        let (s, vram, xr) = (&mut self.state, &mut self.vram, &self.xr);
+        blitted(crate::blit_run(s, vram, xr, n))
     }
 
     pub fn timer_tick(&mut self) -> Result<(), Refusal> {

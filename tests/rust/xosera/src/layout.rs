@@ -145,11 +145,13 @@ impl State {
     }
 }
 
-/// In every answer `refusal` is 0 for done.
+/// In every answer `refusal` is 0 for done. Bit 3 of a `mask` says whether bits 15:12 of the word were
+/// written, bit 0 whether 3:0 were; a write other than an odd data write has mask 0, a refused one too.
 #[repr(C)]
 #[derive(Clone, Copy, Debug, PartialEq, Eq)]
 pub struct WriteAnswer {
     pub refusal: u8,
+    pub mask: u8,
 }
 
 #[repr(C)]
@@ -159,10 +161,12 @@ pub struct ReadAnswer {
     pub byte: u8,
 }
 
+/// The words done, and the mask of the last of them, 0 if none was.
 #[repr(C)]
 #[derive(Clone, Copy, Debug, PartialEq, Eq)]
 pub struct BlitAnswer {
     pub refusal: u8,
+    pub mask: u8,
     pub count: u64,
 }
 

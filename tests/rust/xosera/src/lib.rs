@@ -10,15 +10,15 @@
 //! let mut x = Adapter::new(65536);
 //! x.write_word(xosera::XM_WR_INCR, 1)?;
 //! x.write_word(xosera::XM_WR_ADDR, 0x1000)?;
-//! x.write_word(xosera::XM_DATA, 0xBEEF)?;
-//! assert_eq!(x.vram[0x1000], 0xBEEF);
+//! let mask = x.write_word(xosera::XM_DATA, 0xBEEF)?;
+//! assert_eq!((x.vram[0x1000], mask), (0xBEEF, 15));
 //! # Ok::<(), xosera::Refusal>(())
 //! ```
 
 mod adapter;
 mod layout;
 
-pub use adapter::{Adapter, Refusal};
+pub use adapter::{Adapter, Blitted, Refusal};
 pub use layout::*;
 
 /// The calls as C has them.

@@ -1,7 +1,11 @@
 //! The owning adapter: words, the XR space, blits, saved files, and refusals as errors.
 
-use xosera::{saved_bytes, Adapter, Refusal};
-use xosera::{XM_DATA, XM_INT_CTRL, XM_RD_ADDR, XM_SYS_CTRL, XM_WR_ADDR};
+use xosera::{saved_bytes, Adapter, Blitted, Refusal};
+use xosera::{XM_DATA, XM_DATA_2, XM_INT_CTRL, XM_RD_ADDR, XM_SYS_CTRL, XM_WR_ADDR};
+
+fn blitted(count: u64, mask: u8) -> Result<Blitted, Refusal> {
+    Ok(Blitted { count, mask })
+}
 
 #[test]
 fn words_go_in_and_come_back() {
@@ -16,23 +20,36 @@ fn words_go_in_and_come_back() {
 }
 
 #[test]
+fn a_data_write_gives_the_nibble_mask() {
+    let mut x = Adapter::new(256);
+    assert_eq!(x.write_word(XM_DATA, 0x1234), Ok(0xF));
+    assert_eq!(x.write_word(XM_SYS_CTRL, 0xA), Ok(0));
+    assert_eq!(x.write_byte(XM_DATA, false, 0x56), Ok(0));
+    assert_eq!(x.write_byte(XM_DATA, true, 0x78), Ok(0xA));
+    assert_eq!(x.vram[0], 0x5274);
+    assert_eq!(x.write_word(XM_DATA_2, 0x9999), Ok(0xA));
+    assert_eq!(x.write_word(XM_WR_ADDR, 1), Ok(0));
+}
+
+#[test]
 fn a_blit_takes_a_step_a_word() {
     let mut x = Adapter::new(256);
     for (xaddr, word) in [
         (0x40, 1),
         (0x44, 0x5555),
         (0x46, 0x10),
-        (0x47, 0xFF00),
+        (0x47, 0x7C00),
         (0x49, 2),
     ] {
         x.write_xr(xaddr, word).unwrap();
     }
     assert_eq!(x.read_word(XM_SYS_CTRL), Ok(0x200F));
-    assert_eq!(x.blit_step(), Ok(1));
-    assert_eq!(x.vram[0x10..0x14], [0x5555, 0, 0, 0]);
-    assert_eq!(x.blit_run(u64::MAX), Ok(2));
-    assert_eq!(x.vram[0x10..0x14], [0x5555, 0x5555, 0x5555, 0]);
-    assert_eq!(x.blit_step(), Ok(0));
+    assert_eq!(x.blit_run(0), blitted(0, 0));
+    assert_eq!(x.blit_step(), blitted(1, 0x7));
+    assert_eq!(x.vram[0x10..0x14], [0x0555, 0, 0, 0]);
+    assert_eq!(x.blit_run(u64::MAX), blitted(2, 0xC));
+    assert_eq!(x.vram[0x10..0x14], [0x0555, 0x5555, 0x5500, 0]);
+    assert_eq!(x.blit_step(), blitted(0, 0));
 }
 
 #[test]

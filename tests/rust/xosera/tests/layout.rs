@@ -8,6 +8,13 @@ use xosera::{
 };
 use xosera::{State, STATE_WORDS};
 
+/// Where a field stands in its struct.
+macro_rules! place {
+    ($answer:ident.$field:ident) => {
+        addr_of!($answer.$field) as usize - addr_of!($answer) as usize
+    };
+}
+
 fn numbered() -> State {
     let mut words = [0; STATE_WORDS];
     for (number, word) in (0..).zip(words.iter_mut()) {
@@ -55,20 +62,25 @@ fn a_field_set_is_a_word_set() {
 
 #[test]
 fn answers_are_laid_out_as_in_c() {
-    let count = BlitAnswer {
+    let blit = BlitAnswer {
         refusal: 0,
+        mask: 0,
         count: 0,
     };
-    let at = addr_of!(count.count) as usize - addr_of!(count) as usize;
-    assert_eq!((size_of::<BlitAnswer>(), at), (16, 8));
+    assert_eq!((place!(blit.refusal), place!(blit.mask)), (0, 1));
+    assert_eq!((size_of::<BlitAnswer>(), place!(blit.count)), (16, 8));
+    let write = WriteAnswer {
+        refusal: 0,
+        mask: 0,
+    };
+    assert_eq!((place!(write.refusal), place!(write.mask)), (0, 1));
     let saved = SaveAnswer {
         refusal: 0,
         length: 0,
     };
-    let at = addr_of!(saved.length) as usize - addr_of!(saved) as usize;
-    assert_eq!((size_of::<SaveAnswer>(), at), (16, 8));
-    assert_eq!((size_of::<WriteAnswer>(), size_of::<StateAnswer>()), (1, 1));
-    assert_eq!(size_of::<LoadAnswer>(), 1);
+    assert_eq!((size_of::<SaveAnswer>(), place!(saved.length)), (16, 8));
+    assert_eq!((size_of::<StateAnswer>(), size_of::<LoadAnswer>()), (1, 1));
+    assert_eq!(size_of::<WriteAnswer>(), 2);
     assert_eq!((size_of::<ReadAnswer>(), size_of::<LineAnswer>()), (2, 2));
 }
 
