@@ -109,20 +109,25 @@ impl Calls {
         }
     }
 
-    /// A number of steps: few, all that are left, one more or less, or without end.
+    /// A number of steps: few, those to the end of the running blit or of all, one more or less, or
+    /// without end.
     fn steps(&mut self, s: &xosera::State) -> u64 {
         let few = self.random.below(40);
-        let left = match typed(s.words()) {
-            Some(s) if s.in_range() => model::words_left(&s),
+        let s = match typed(s.words()) {
+            Some(s) if s.in_range() => s,
             _ => return few,
         };
-        if left > LONGEST_RUN {
+        let mut end = model::words_left(&s);
+        if end > LONGEST_RUN {
             return few;
         }
+        if self.random.one_in(3) {
+            end = model::words_left(&model::State { queued: false, ..s });
+        }
         match self.random.below(10) {
-            0..=2 => left,
-            3 => left + 1,
-            4 => left.saturating_sub(1),
+            0..=2 => end,
+            3 => end + 1,
+            4 => end.saturating_sub(1),
             5 => u64::MAX,
             6 => 0,
             _ => few,

@@ -3,6 +3,7 @@
 pub mod calls;
 pub mod convert;
 pub mod files;
+pub mod masks;
 pub mod pair;
 pub mod random;
 pub mod settings;

@@ -6,7 +6,8 @@
 use compare::calls::{Calls, VRAM_LENGTHS, XR_EDGES};
 use compare::convert::{fits, in_range, typed, NARROW};
 use compare::files::{file, room, KINDS, ROOMS};
-use compare::pair::{Call, Lent, Mismatch, Pair};
+use compare::masks::Masks;
+use compare::pair::{Call, Lent, Mismatch, Pair, Said};
 use compare::random::Random;
 use compare::settings::{number, seed};
 
@@ -45,10 +46,13 @@ struct Tally {
     loads: [u64; 10],
     /// States with one word alone that does not fit its byte or flag, by `NARROW`.
     misfits: [u64; 22],
+    masks: Masks,
 }
 
 impl Tally {
-    fn count(&mut self, before: &xosera::State, after: &xosera::State, call: Call, value: u64) {
+    fn count(&mut self, before: &xosera::State, after: &xosera::State, call: Call, said: Said) {
+        self.masks.count(before, call, said);
+        let value = said.value;
         let stepping = matches!(call, Call::Step | Call::Run { .. });
         if stepping && value > 0 {
             let r = &before.engine.regs;
@@ -155,6 +159,7 @@ impl Tally {
             &self.lengths[..],
             &self.edges[..],
             &self.misfits[..],
+            &self.masks.numbers(),
             &[
                 self.shifted,
                 self.constant,
@@ -259,7 +264,7 @@ fn episode(calls: &mut Calls, tally: &mut Tally, length: usize, n: u64) -> Resul
         tally.kinds[kind(call)] += 1;
         tally.refusals[said.refusal as usize] += 1;
         tally.lengths[length] += 1;
-        tally.count(&before, &after, call, said.value);
+        tally.count(&before, &after, call, said);
         if !astray || in_range(before.words()) {
             state = after;
         }
@@ -344,6 +349,7 @@ fn library_and_model_agree() {
         episodes += 1;
     }
     tally.print();
+    tally.masks.print();
     if wanted >= 1_000_000 {
         tally.require_all();
     }
