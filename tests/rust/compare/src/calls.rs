@@ -5,6 +5,7 @@ use std::collections::VecDeque;
 use crate::convert::{typed, Words, NARROW};
 use crate::pair::{Call, Lent};
 use crate::random::Random;
+use crate::settings::seed;
 use xosera::STATE_WORDS;
 
 /// The nine VRAM lengths.
@@ -35,6 +36,13 @@ impl Calls {
             random,
             planned: VecDeque::new(),
         }
+    }
+
+    /// Those of XOSERA_SEED, or of a seed from the clock, which is printed.
+    pub fn seeded() -> Calls {
+        let seed = seed();
+        println!("calls of XOSERA_SEED={}", seed);
+        Calls::new(Random::new(seed))
     }
 
     pub fn random(&mut self) -> &mut Random {
@@ -275,10 +283,10 @@ impl Calls {
         self.get(0);
     }
 
-    /// The blitter's registers, some or all of them, and a start or a queueing.
-    fn plan_blit(&mut self) {
+    /// The blitter's ten registers, in the order of their addresses.
+    pub fn blit_regs(&mut self) -> [u16; 10] {
         let source = self.word();
-        let regs = [
+        [
             self.blit_ctrl(),
             self.logic(),
             self.logic(),
@@ -289,7 +297,12 @@ impl Calls {
             self.blit_shift(),
             self.blit_lines(),
             self.blit_words(),
-        ];
+        ]
+    }
+
+    /// The blitter's registers, some or all of them, and a start or a queueing.
+    fn plan_blit(&mut self) {
+        let regs = self.blit_regs();
         let from = match self.random.below(4) {
             0 => self.random.below(10) as usize,
             _ => 0,

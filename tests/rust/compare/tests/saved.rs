@@ -6,18 +6,10 @@ use compare::calls::{Calls, VRAM_LENGTHS};
 use compare::convert::{typed, words};
 use compare::files::{arranged, gaps, sections, with_state, Section};
 use compare::files::{ARRANGEMENTS, STATE_AT, STATE_END};
-use compare::random::Random;
-use compare::settings::seed;
 use xosera::{saved_bytes, Adapter, Blitted, Refusal, State, STATE_WORDS, XR_WORDS};
 
 const NOT_SAVED: Refusal = Refusal(8);
 const OTHER_VRAM: Refusal = Refusal(9);
-
-fn calls() -> Calls {
-    let seed = seed();
-    println!("adapters of XOSERA_SEED={}", seed);
-    Calls::new(Random::new(seed))
-}
 
 /// Some adapter in range.
 fn any_adapter(calls: &mut Calls, vram: usize) -> Adapter {
@@ -82,7 +74,7 @@ fn is_saved(file: &[u8]) -> bool {
 /// adapter, which is loaded. In the contents no byte can change.
 #[test]
 fn every_byte_of_contents_and_state_counts() {
-    let mut calls = calls();
+    let mut calls = Calls::seeded();
     let target = any_adapter(&mut calls, 256);
     let mut reset = any_adapter(&mut calls, 256);
     reset.state = State::reset();
@@ -127,7 +119,7 @@ fn every_byte_of_contents_and_state_counts() {
 /// Any byte of a memory may be any other: the file is another adapter's.
 #[test]
 fn every_word_of_the_memories_is_kept() {
-    let mut calls = calls();
+    let mut calls = Calls::seeded();
     let x = any_adapter(&mut calls, 256);
     let target = any_adapter(&mut calls, 256);
     let mut file = x.saved().unwrap();
@@ -150,7 +142,7 @@ fn every_word_of_the_memories_is_kept() {
 
 #[test]
 fn a_part_of_a_file_is_refused() {
-    let mut calls = calls();
+    let mut calls = Calls::seeded();
     let file = any_adapter(&mut calls, 256).saved().unwrap();
     let target = any_adapter(&mut calls, 256);
     for length in 0..file.len() {
@@ -166,7 +158,7 @@ fn a_part_of_a_file_is_refused() {
 
 #[test]
 fn bytes_behind_a_file_are_refused() {
-    let mut calls = calls();
+    let mut calls = Calls::seeded();
     let file = any_adapter(&mut calls, 256).saved().unwrap();
     for vram in [256, 512] {
         let target = any_adapter(&mut calls, vram);
@@ -185,7 +177,7 @@ fn bytes_behind_a_file_are_refused() {
 /// Contents that agree with one another and with the file's length, but not with this form.
 #[test]
 fn other_sections_are_refused() {
-    let mut calls = calls();
+    let mut calls = Calls::seeded();
     let x = any_adapter(&mut calls, 256);
     let file = x.saved().unwrap();
     let right = sections(&file, &[1, 2, 3]);
@@ -225,7 +217,7 @@ fn other_sections_are_refused() {
 /// The same with a gap at each place, which also makes the file as long as those of adapters are.
 #[test]
 fn no_gap_makes_other_sections_a_file() {
-    let mut calls = calls();
+    let mut calls = Calls::seeded();
     let file = any_adapter(&mut calls, 256).saved().unwrap();
     let targets = [256, 512].map(|vram| any_adapter(&mut calls, vram));
     let mut loads = 0;
@@ -251,7 +243,7 @@ fn no_gap_makes_other_sections_a_file() {
 /// Every length there and back, in a room just long enough or longer; 9 in a memory of another length.
 #[test]
 fn every_length_there_and_back() {
-    let mut calls = calls();
+    let mut calls = Calls::seeded();
     let targets = VRAM_LENGTHS.map(|vram| any_adapter(&mut calls, vram));
     for vram in VRAM_LENGTHS {
         let x = any_adapter(&mut calls, vram);
@@ -280,7 +272,7 @@ fn every_length_there_and_back() {
 /// A refused save leaves the room, whatever the reason, and says length 0.
 #[test]
 fn a_refused_save_leaves_the_room() {
-    let mut calls = calls();
+    let mut calls = Calls::seeded();
     let x = any_adapter(&mut calls, 256);
     let bytes = saved_bytes(256);
     let said = |x: &Adapter, length: usize| {
@@ -305,7 +297,7 @@ fn a_refused_save_leaves_the_room() {
 /// Of the refusals that apply to a load the first is given: of what is lent, then of the file.
 #[test]
 fn the_first_refusal_of_a_load_is_given() {
-    let mut calls = calls();
+    let mut calls = Calls::seeded();
     let x = any_adapter(&mut calls, 256);
     let other = any_adapter(&mut calls, 512).saved().unwrap();
     let said = |x: &Adapter, file: &[u8]| {
@@ -328,7 +320,7 @@ fn the_first_refusal_of_a_load_is_given() {
 /// 9 is given exactly where a memory as long as the saved one would be loaded.
 #[test]
 fn only_a_saved_adapter_has_another_length() {
-    let mut calls = calls();
+    let mut calls = Calls::seeded();
     let small = any_adapter(&mut calls, 256);
     let large = any_adapter(&mut calls, 512);
     let right = any_adapter_running(&mut calls, true, 512).saved().unwrap();
@@ -365,7 +357,7 @@ fn only_a_saved_adapter_has_another_length() {
 /// finished: as if it had not been interrupted.
 #[test]
 fn a_blit_goes_on_after_a_load() {
-    let mut calls = calls();
+    let mut calls = Calls::seeded();
     let mut x = any_adapter(&mut calls, 256);
     x.state = State::reset();
     let blits = [
