@@ -27,8 +27,8 @@ impl Adapter {
     }
 }
 
-/// The VRAM words that a blit reads and those that it may write, found by doing its steps alone. A
-/// word whose nibbles are all held back counts as written here, which only makes the lists tamer.
+/// The VRAM words that a blit reads and those that it writes a nibble of, found by doing its steps
+/// alone.
 struct Footprint {
     reads: Vec<bool>,
     writes: Vec<bool>,
@@ -47,9 +47,10 @@ fn footprint(started: &Adapter) -> Footprint {
         if regs.ctrl & 1 == 0 {
             f.reads[x.place(regs.src_s)] = true;
         }
-        f.writes[x.place(regs.dst_d)] = true;
+        let target = x.place(regs.dst_d);
         let said = x.call(Call::Step);
         assert_eq!((said.refusal, said.value), (0, 1));
+        f.writes[target] |= said.mask != 0;
         f.words += 1;
     }
     f
