@@ -19,8 +19,12 @@ const VRAM_WORDS: usize = 65536;
 /// Many short rounds: on a busy machine some of them are left alone.
 const ROUNDS: usize = 600;
 
-/// The blit's size: 256 lines of 256 words.
+/// The words of a blit.
 const WORDS: u64 = 65536;
+
+/// Its `LINES` and `WORDS`: 256 lines of 256, or 32,768 of 2, where every word is at an edge.
+const WIDE: [u16; 2] = [255, 255];
+const NARROW: [u16; 2] = [32767, 1];
 
 /// Single calls in a round.
 const CALLS: u64 = 4096;
@@ -477,12 +481,12 @@ fn compare<W: Work>(name: &str, unit: &str, units: u64, x: &xosera::Adapter, wor
 }
 
 /// An adapter just after the start of a blit.
-fn started(ctrl: u16, source: u16, shift: u16) -> xosera::Adapter {
+fn started(ctrl: u16, source: u16, shift: u16, [lines, words]: [u16; 2]) -> xosera::Adapter {
     let mut x = xosera::Adapter::new(VRAM_WORDS);
     for (i, word) in x.vram.iter_mut().enumerate() {
         *word = (i as u16).wrapping_mul(40503) ^ (i as u16 >> 5);
     }
-    let regs = [ctrl, 0, 0, 0, source, 0, 0x8000, shift, 255, 255];
+    let regs = [ctrl, 0, 0, 0, source, 0, 0x8000, shift, lines, words];
     for (xaddr, &word) in (0x40..).zip(&regs) {
         x.write_xr(xaddr, word)
             .expect("an idle adapter takes a blit");
@@ -515,32 +519,9 @@ fn main() {
         "{:<36} {:>8} {:>8} {:>7}",
         "millions a second", "library", "plain", "ratio"
     );
-    let blits = [
-        ("plain copy", started(0x0000, 0x0000, 0xFF00)),
-        ("shift and colour test", started(0x0010, 0x0000, 0x7801)),
-        ("constant fill", started(0x0001, 0x1234, 0xFF00)),
-    ];
-    for (name, x) in &blits {
-        compare(&format!("one run, {}", name), "Mwords/s", WORDS, x, Run);
-    }
-    for (name, x) in &blits {
-        let name = format!("single steps, {}", name);
-        compare(&name, "Mwords/s", CALLS, x, Steps);
-    }
-
+    let busy = blits();
     let x = prepared();
-    for (name, reg) in [
-        ("XM_DATA", xosera::XM_DATA),
-        ("XM_XDATA", xosera::XM_XDATA),
-        ("XM_TIMER", xosera::XM_TIMER),
-    ] {
-        let (writes, reads) = (
-            format!("byte writes to {}", name),
-            format!("byte reads of {}", name),
-        );
-        compare(&writes, "Mcalls/s", CALLS, &x, Writes(reg));
-        compare(&reads, "Mcalls/s", CALLS, &x, Reads(reg));
-    }
+    bytes(&x);
     compare("timer ticks", "Mcalls/s", CALLS, &x, Ticks);
     compare("ticks and even reads", "Mcalls/s", CALLS, &x, TicksRead);
     compare("frame ends", "Mcalls/s", CALLS, &x, FrameEnds);
@@ -550,8 +531,47 @@ fn main() {
     up.frame_end().expect("a frame end that is done");
     compare("interrupt line questions", "Mcalls/s", CALLS, &up, Lines);
 
-    let (_, busy) = &blits[1];
     let file = busy.saved().expect("an adapter that calls left");
-    compare("a save", "Mwords/s", FILE_WORDS, busy, Save);
+    compare("a save", "Mwords/s", FILE_WORDS, &busy, Save);
     compare("a load", "Mwords/s", FILE_WORDS, &up, Load(file));
+}
+
+/// Runs and single steps. An adapter with a blit running.
+fn blits() -> xosera::Adapter {
+    let blits = [
+        ("plain copy", started(0x0000, 0x0000, 0xFF00, WIDE)),
+        (
+            "shift and colour test",
+            started(0x0010, 0x0000, 0x7801, WIDE),
+        ),
+        ("constant fill", started(0x0001, 0x1234, 0xFF00, WIDE)),
+    ];
+    for (name, x) in &blits {
+        compare(&format!("one run, {}", name), "Mwords/s", WORDS, x, Run);
+    }
+    let narrow = started(0x0000, 0x0000, 0x7E00, NARROW);
+    let name = "one run, lines of two words";
+    compare(name, "Mwords/s", WORDS, &narrow, Run);
+    for (name, x) in &blits {
+        let name = format!("single steps, {}", name);
+        compare(&name, "Mwords/s", CALLS, x, Steps);
+    }
+    let [_, (_, busy), _] = blits;
+    busy
+}
+
+/// Byte writes and reads.
+fn bytes(x: &xosera::Adapter) {
+    for (name, reg) in [
+        ("XM_DATA", xosera::XM_DATA),
+        ("XM_XDATA", xosera::XM_XDATA),
+        ("XM_TIMER", xosera::XM_TIMER),
+    ] {
+        let (writes, reads) = (
+            format!("byte writes to {}", name),
+            format!("byte reads of {}", name),
+        );
+        compare(&writes, "Mcalls/s", CALLS, x, Writes(reg));
+        compare(&reads, "Mcalls/s", CALLS, x, Reads(reg));
+    }
 }
