@@ -125,7 +125,7 @@ build build/plain build/sanitized:
 test-rust: $(LIB) | build
 	@(cd tests/rust && cargo test --release -- --nocapture) >build/rust.log 2>&1 || \
 	    { cat build/rust.log; exit 1; }
-	@grep -e '^order' -e '^random calls' -e '^saved' -e '^  [a-zA-Z]' build/rust.log
+	@grep -e '^masks' -e '^order' -e '^random calls' -e '^saved' -e '^  [a-zA-Z]' build/rust.log
 	@awk '/^test result/ { n += $$4 } END { print "Rust tests: " n " passed, 0 failed" }' build/rust.log
 
 bench: $(LIB)
