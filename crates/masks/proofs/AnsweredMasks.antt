@@ -9,9 +9,9 @@ use lib.Dec.{eqb}
 use lib.ListN.{length, getD}
 use borrow.Author.Tests.{eq-eqb, ne-eqb}
 use Rattle.xosera.specs.State.{isSet}
-use Rattle.xosera.specs.Memories.{isVramLength, Store, stored}
+use Rattle.xosera.specs.Memories.{isVramLength, stored}
 use Rattle.xosera.specs.Adapter.{Side, Adapter, stateOf}
-use Rattle.xosera.specs.Blitter.{fetched, sourced, drawing, drawn, steps, nthMask}
+use Rattle.xosera.specs.Blitter.{fetched, sourced, drawing, drawn, steps, storeNow, nthMask}
 use Rattle.xosera.specs.Plan.{Act}
 use Rattle.xosera.specs.XrSpace.{xrWrite}
 use Rattle.xosera.specs.HostBytes.{vramLoad, writeNothing, writes, writeWord, writeByte, readByte}
@@ -49,9 +49,6 @@ vram-some : (n : ℕ) → isVramLength n ≡ true → 0 < n
 unfolding isVramLength
 vram-some zero h = absurd (true≢false (sym h))
 vram-some (suc n) h = omega arith
-
-abbrev storeNow : Adapter → Store
-storeNow a = drawing (a .engine) (fetched (a .engine) (a .vram))
 
 wrote-nibbles : (a b : Adapter) → 0 < length (a .vram) → b .vram ≡ stored (storeNow a) (a .vram) → WroteNibbles a (storeNow a .mask) b
 unfolding drawing

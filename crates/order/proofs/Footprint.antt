@@ -3,20 +3,17 @@ use mathlib.Core.Path.{_≡_, refl, sym, ap, _∙_}
 use mathlib.Core.Bool.{true, false}
 use Prim.Native.Nat.{ℕ, zero, suc, _%_}
 use Rattle.xosera.specs.State.{isSet}
-use Rattle.xosera.specs.Memories.{place, word, Store}
+use Rattle.xosera.specs.Memories.{place, word}
 use Rattle.xosera.specs.Adapter.{Adapter}
-use Rattle.xosera.specs.Blitter.{fetched, drawing, drawn, stepped, steps}
+use Rattle.xosera.specs.Blitter.{drawing, drawn, stepped, steps, storeNow}
 use Rattle.xosera.proofs.Branches.{or-eq-false-iff}
 use Rattle.xosera.proofs.StepCases.{step-cases, running-mask}
 use Rattle.xosera.proofs.RangeLaws.{stepped-vram-length}
 use Rattle.order.specs.Order.{writesNow, blitWrites}
 use Rattle.order.proofs.StoreLaws.{touches, stored-word}
 
--- The store of an engine's next step, and the word that a running one writes with it.
-abbrev pub nextStore : Adapter → Store
-nextStore a = drawing (a .engine) (fetched (a .engine) (a .vram))
-
-pub running-writes : (a : Adapter) (w : ℕ) → isSet (a .engine .running) ≡ true → writesNow a w ≡ touches (nextStore a) (a .vram) w
+-- The word that a running engine's next step writes.
+pub running-writes : (a : Adapter) (w : ℕ) → isSet (a .engine .running) ≡ true → writesNow a w ≡ touches (storeNow a) (a .vram) w
 unfolding writesNow touches drawing
 running-writes a w on = rw (running-mask a on)
 
@@ -31,7 +28,7 @@ unfolding drawn
 stepped-word a x h = step-cases (λ (b : Adapter). word (b .vram) x ≡ word (a .vram) x) a (λ _. refl) (λ on _. stays on) (λ on _. stays on)
   where
     stays : isSet (a .engine .running) ≡ true → word (drawn (a .engine) (a .vram)) x ≡ word (a .vram) x
-    stays on = stored-word (nextStore a) (a .vram) x (sym (running-writes a (place (a .vram) x) on) ∙ h)
+    stays on = stored-word (storeNow a) (a .vram) x (sym (running-writes a (place (a .vram) x) on) ∙ h)
 
 pub steps-word : (n : ℕ) (a : Adapter) (x : ℕ) → blitWrites n a (place (a .vram) x) ≡ false → word (steps n a .vram) x ≡ word (a .vram) x
 unfolding steps blitWrites

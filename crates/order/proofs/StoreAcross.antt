@@ -10,12 +10,12 @@ use Rattle.xosera.specs.declared.BlitRegs.{BlitRegs}
 use Rattle.xosera.specs.State.{isSet}
 use Rattle.xosera.specs.Memories.{place, word, Store, stored}
 use Rattle.xosera.specs.Adapter.{Adapter}
-use Rattle.xosera.specs.Blitter.{idle, launched, isConstant, fetched, drawing, drawn, lastStep, wordDrawn, succeeding, blitEnded, stepped, steps, stepMask}
+use Rattle.xosera.specs.Blitter.{idle, launched, isConstant, fetched, drawing, drawn, lastStep, wordDrawn, succeeding, blitEnded, stepped, steps, storeNow, stepMask}
 use Rattle.xosera.proofs.Branches.{clash, not-passed, and-both, or-eq-false-iff}
 use Rattle.xosera.proofs.StepCases.{stepped-idle, stepped-last, stepped-on, step-cases}
 use Rattle.order.specs.Order.{readsNow, writesNow, blitReads, blitWrites}
 use Rattle.order.proofs.StoreLaws.{touches, stored-place, stored-word, stored-swap, Separate}
-use Rattle.order.proofs.Footprint.{nextStore, running-writes, stepped-place}
+use Rattle.order.proofs.Footprint.{running-writes, stepped-place}
 
 -- The source word of an engine's next step is not the one that a store touches: the step takes the same word after the store.
 abbrev Unfetched : Store → Engine → List ℕ → Type 0
@@ -76,7 +76,7 @@ module _ (k : Store) (a b : Adapter) (beside : Beside k a b) (free : Free k a) w
         let at : ℕ = place (a .vram) (a .engine .regs .srcs) in
         not-passed (touches k (a .vram) at) (λ t. clash (and-both (and-both on (ap not varies)) (eq-eqb at at refl)) (free .unread at t))
 
-    separate : Separate k (nextStore a) (a .vram)
+    separate : Separate k (storeNow a) (a .vram)
     separate w t = sym (running-writes a w on) ∙ free .unwritten w t
 
     -- So does a word drawn.

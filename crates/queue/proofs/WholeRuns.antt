@@ -5,7 +5,7 @@ use Prim.Native.Nat.{ℕ, suc, _+_, _-_, min}
 use native.Mathlib.Omega.{arith}
 use Rattle.xosera.specs.State.{isSet}
 use Rattle.xosera.specs.Adapter.{Adapter, stateOf}
-use Rattle.xosera.specs.Blitter.{fetched, drawing, steps, nthMask, wordsLeft}
+use Rattle.xosera.specs.Blitter.{steps, storeNow, nthMask, wordsLeft}
 use Rattle.xosera.specs.Ranges.{inRange}
 use Rattle.xosera.proofs.StepCases.{running-mask}
 use Rattle.xosera.proofs.RangeLaws.{steps-in-range}
@@ -21,10 +21,10 @@ module _ (a : Adapter) (r : inRange (stateOf a) ≡ true) (n : ℕ) {d : ℕ} (c
     runs : isSet (steps (d - 1) a .engine .running) ≡ true
     runs = not-before (d - 1) a r (omega (arith, counted, some))
 
-    pub last-wrote : {m : ℕ} → m ≡ drawing (b .engine) (fetched (b .engine) (b .vram)) .mask → m ≡ nthMask d a
+    pub last-wrote : {m : ℕ} → m ≡ storeNow b .mask → m ≡ nthMask d a
     unfolding nthMask
     last-wrote e =
-        e ∙ ap (λ (x : Adapter). drawing (x .engine) (fetched (x .engine) (x .vram)) .mask) first ∙ sym (running-mask (steps (d - 1) a) runs)
+        e ∙ ap (λ (x : Adapter). storeNow x .mask) first ∙ sym (running-mask (steps (d - 1) a) runs)
         ∙ ap (λ (k : ℕ). nthMask k a) some
 
     pub all-done : {c : Adapter} → c ≡ steps 1 b → c ≡ steps n a

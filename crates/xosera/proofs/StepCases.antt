@@ -4,7 +4,7 @@ use mathlib.Core.Bool.{Bool, true, false}
 use Prim.Native.Nat.{ℕ, zero, suc}
 use Rattle.xosera.specs.State.{isSet}
 use Rattle.xosera.specs.Adapter.{Adapter}
-use Rattle.xosera.specs.Blitter.{fetched, drawing, drawn, lastStep, wordDrawn, blitEnded, stepped, steps, stepMask}
+use Rattle.xosera.specs.Blitter.{drawn, lastStep, wordDrawn, blitEnded, stepped, steps, storeNow, stepMask}
 use Rattle.xosera.proofs.Branches.{cond-yes, cond-no, clash}
 
 pub stepped-idle : (a : Adapter) → isSet (a .engine .running) ≡ false → stepped a ≡ a
@@ -44,7 +44,7 @@ pub stepped-vram : (a : Adapter) → isSet (a .engine .running) ≡ true → ste
 stepped-vram a r =
     step-cases (λ (c : Adapter). c .vram ≡ drawn (a .engine) (a .vram)) a (λ i. absurd (clash r i)) (λ _ _. refl) (λ _ _. refl)
 
-pub running-mask : (a : Adapter) → isSet (a .engine .running) ≡ true → stepMask a ≡ drawing (a .engine) (fetched (a .engine) (a .vram)) .mask
+pub running-mask : (a : Adapter) → isSet (a .engine .running) ≡ true → stepMask a ≡ storeNow a .mask
 unfolding stepMask
 running-mask a r = cond-yes _ 0 r
 

@@ -173,9 +173,13 @@ unfoldable pub steps : ℕ → Adapter → Adapter
 steps zero a = a
 steps (suc n) a = steps n (stepped a)
 
+-- The store of the next step.
+abbrev pub storeNow : Adapter → Store
+storeNow a = drawing (a .engine) (fetched (a .engine) (a .vram))
+
 -- The mask of the next step, that of its store, after edges and colour test; 0 on an idle engine (document 02, request 2).
 unfoldable pub stepMask : Adapter → ℕ
-stepMask a = cond (isSet (a .engine .running)) (drawing (a .engine) (fetched (a .engine) (a .vram)) .mask) 0
+stepMask a = cond (isSet (a .engine .running)) (storeNow a .mask) 0
 
 -- The mask of the n-th step from here, counted from 1; of none, 0.
 unfoldable pub nthMask : ℕ → Adapter → ℕ
