@@ -7,6 +7,7 @@ use Prim.Native.Nat.{ℕ}
 use lib.Dec.{T, eqb, eqb→eq}
 use Rattle.xosera.specs.BenchTable.{Row, table, TableHolds}
 use Rattle.xosera.specs.Examples.{examples, ExamplesHold}
+use Rattle.xosera.specs.BeamExamples.{beamExamples, BeamExamplesHold}
 use Rattle.xosera.proofs.Branches.{both}
 use Rattle.xosera.proofs.Computing.{computing}
 
@@ -44,3 +45,10 @@ examples-computed = tt
 
 pub examples-hold : ExamplesHold
 examples-hold = all-equal examples examples-computed
+
+beam-examples-computed : T (allSame beamExamples)
+unfolding computing
+beam-examples-computed = tt
+
+pub beam-examples-hold : BeamExamplesHold
+beam-examples-hold = all-equal beamExamples beam-examples-computed

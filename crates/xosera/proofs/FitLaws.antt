@@ -1,12 +1,15 @@
--- On an adapter to which refusals 1 to 3 do not apply, steps and runs are done.
+-- On an adapter to which refusals 1 to 3 do not apply, blit steps, runs and beam steps are done.
 use mathlib.Core.Path.{_≡_, refl, ap, subst, _∙_}
 use mathlib.Core.List.{[]}
 use Prim.Native.Nat.{ℕ}
+use Rattle.xosera.specs.State.{isSet}
 use Rattle.xosera.specs.Adapter.{Adapter}
+use Rattle.xosera.specs.Plan.{perform}
+use Rattle.xosera.specs.Copper.{beamStep}
 use Rattle.xosera.specs.Blitter.{stepped, steps}
-use Rattle.xosera.specs.Events.{Event, step, run}
+use Rattle.xosera.specs.Events.{Event, beam, call, step, run}
 use Rattle.xosera.specs.Refusals.{Fit, lentTests, tests, first, refusal}
-use Rattle.xosera.specs.Calls.{done, after}
+use Rattle.xosera.specs.Calls.{actOf, done, after}
 use Rattle.xosera.proofs.PlanLaws.{after-fit}
 use Rattle.xosera.proofs.RefusalLaws.{fit-passes}
 
@@ -36,3 +39,8 @@ module _ (a : Adapter) (fit : Fit a) where
 
   pub steps-fit : (n : ℕ) → Fit (steps n a)
   steps-fit n = subst Fit (after-run n) (after-fit a (run n) fit)
+
+  -- A beam step is done.
+  pub after-beam : after a (call beam) ≡ perform (beamStep (isSet (a .queued)) (a .side)) a
+  unfolding after done actOf tests
+  after-beam = rw (lent-accepted (call beam) refl)

@@ -10,6 +10,7 @@ pub mod XrLaws
 pub mod WordLaws
 pub mod StepCases
 pub mod RangeLaws
+pub mod BeamLaws
 pub mod PlanLaws
 pub mod RefusalLaws
 pub mod FitLaws

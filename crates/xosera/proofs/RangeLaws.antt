@@ -11,9 +11,10 @@ use borrow.Author.Tests.{eqb-true, eqb-false, leb-true, eq-eqb, le-leb, ne-eqb}
 use Rattle.xosera.specs.State.{Timer, Host, State, isSet}
 use Rattle.xosera.specs.Fields.{blitDone, allStatus}
 use Rattle.xosera.specs.Adapter.{Adapter, stateOf}
+use Rattle.xosera.specs.Beam.{frame}
 use Rattle.xosera.specs.TimerTick.{expires, lowered, ticked}
 use Rattle.xosera.specs.Blitter.{fetched, next, stepped, steps}
-use Rattle.xosera.specs.Ranges.{Running, timerInRange, areBytes, hostInRange, engineInRange, inRange}
+use Rattle.xosera.specs.Ranges.{Running, timerInRange, areBytes, hostInRange, engineInRange, beamInRange, copperInRange, inRange}
 use Rattle.xosera.proofs.Branches.{parts}
 use Rattle.xosera.proofs.StepCases.{step-cases, steps-keep}
 use Rattle.xosera.proofs.EngineLaws.{in-range-running, running-in-range, idle-flag, next-running, succeeding-in-range, drawn-length}
@@ -22,19 +23,27 @@ use Rattle.xosera.proofs.EngineLaws.{in-range-running, running-in-range
 module _ (s : State) (h : inRange s ≡ true) where
   pub in-range-host : hostInRange (s .host) ≡ true
   unfolding inRange
-  in-range-host = (simp parts at h) .0 .0 .0
+  in-range-host = (simp parts at h) .0 .0 .0 .0 .0
 
   pub in-range-status : s .status ≤ allStatus
   unfolding inRange
-  in-range-status = (simp parts at h) .0 .0 .1
+  in-range-status = (simp parts at h) .0 .0 .0 .0 .1
 
   pub in-range-queue : s .queued ≤ s .engine .running
   unfolding inRange
-  in-range-queue = (simp parts at h) .0 .1
+  in-range-queue = (simp parts at h) .0 .0 .0 .1
 
   pub in-range-engine : engineInRange (s .engine) ≡ true
   unfolding inRange
-  in-range-engine = (simp parts at h) .1
+  in-range-engine = (simp parts at h) .0 .0 .1
+
+  pub in-range-beam : beamInRange frame (s .beam) ≡ true
+  unfolding inRange
+  in-range-beam = (simp parts at h) .0 .1
+
+  pub in-range-copper : copperInRange (s .video .coppctrl) (s .beam) ≡ true
+  unfolding inRange
+  in-range-copper = (simp parts at h) .1
 
   -- It runs and is fit to go on, or it is idle and nothing is queued.
   pub in-range-runs : isSet (s .engine .running) ≡ true → Running (s .engine)
@@ -44,9 +53,10 @@ module _ (s : State) (h : inRange s ≡ true) where
   in-range-unqueued off = omega (arith, in-range-queue, idle-flag (s .engine) off in-range-engine)
 
 pub parts-in-range : (s : State) → hostInRange (s .host) ≡ true → s .status ≤ allStatus → s .queued ≤ s .engine .running
-    → engineInRange (s .engine) ≡ true → inRange s ≡ true
+    → engineInRange (s .engine) ≡ true → beamInRange frame (s .beam) ≡ true → copperInRange (s .video .coppctrl) (s .beam) ≡ true
+    → inRange s ≡ true
 unfolding inRange
-parts-in-range s host status queue engine = simp parts (((host, status), queue), engine)
+parts-in-range s host status queue engine beam copper = simp parts (((((host, status), queue), engine), beam), copper)
 
 -- A blit step.
 pub status-raised : (bits status : ℕ) → bits ≤ allStatus → status ≤ allStatus → bitOr status bits ≤ allStatus
@@ -57,11 +67,13 @@ unfolding next
 stepped-in-range a h =
     let host = in-range-host (stateOf a) h in
     let status = in-range-status (stateOf a) h in
+    let beam = in-range-beam (stateOf a) h in
+    let copper = in-range-copper (stateOf a) h in
     step-cases (λ (b : Adapter). inRange (stateOf b) ≡ true) a (λ _. h)
     (λ r l. parts-in-range _ host (status-raised blitDone (a .status) (omega arith) status) (omega arith)
-    (succeeding-in-range (isSet (a .queued)) (a .side .blit)))
+    (succeeding-in-range (isSet (a .queued)) (a .side .blit)) beam copper)
     (λ r l. parts-in-range _ host status (omega (arith, in-range-queue (stateOf a) h, eqb-true (a .engine .running) 1 r))
-    (running-in-range _ (next-running (a .engine) (fetched (a .engine) (a .vram)) (in-range-runs (stateOf a) h r) l)))
+    (running-in-range _ (next-running (a .engine) (fetched (a .engine) (a .vram)) (in-range-runs (stateOf a) h r) l)) beam copper)
 
 pub steps-in-range : (n : ℕ) (a : Adapter) → inRange (stateOf a) ≡ true → inRange (stateOf (steps n a)) ≡ true
 steps-in-range n a h = steps-keep (λ (b : Adapter). inRange (stateOf b) ≡ true) stepped-in-range n a h

@@ -9,7 +9,7 @@ use lib.ListN.{length, getD}
 use borrow.Author.Tests.{not-false, eqb-true, eq-eqb}
 use Rattle.xosera.specs.Memories.{isXrLength}
 use Rattle.xosera.specs.Adapter.{Adapter, stateOf}
-use Rattle.xosera.specs.Events.{Event, write, read, tick, frameEnd, line, call, step, run}
+use Rattle.xosera.specs.Events.{Event, write, read, tick, beam, line, call, step, run}
 use Rattle.xosera.specs.Ranges.{inRange}
 use Rattle.xosera.specs.Refusals.{badVram, badXr, badState, Fit, Test, _when_, lentTests, tests, first, refusal}
 use Rattle.xosera.proofs.Branches.{parts}
@@ -24,7 +24,7 @@ unfolding tests
 tests-numbered a (call (write r odd b)) = refl
 tests-numbered a (call (read r odd)) = refl
 tests-numbered a (call tick) = refl
-tests-numbered a (call frameEnd) = refl
+tests-numbered a (call beam) = refl
 tests-numbered a (call line) = refl
 tests-numbered a step = refl
 tests-numbered a (run n) = refl
@@ -90,7 +90,7 @@ unfolding tests badState
 accepted-in-range a (call (write r odd b)) h = lent-fit a (call (write r odd b)) refl h .state
 accepted-in-range a (call (read r odd)) h = lent-fit a (call (read r odd)) refl h .state
 accepted-in-range a (call tick) h = not-false _ (accepted-none a (call tick) 0 h)
-accepted-in-range a (call frameEnd) h = not-false _ (accepted-none a (call frameEnd) 0 h)
+accepted-in-range a (call beam) h = lent-fit a (call beam) refl h .state
 accepted-in-range a (call line) h = not-false _ (accepted-none a (call line) 0 h)
 accepted-in-range a step h = lent-fit a step refl h .state
 accepted-in-range a (run n) h = lent-fit a (run n) refl h .state

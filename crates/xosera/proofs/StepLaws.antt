@@ -127,15 +127,15 @@ run-counts (suc n) a h =
 
 -- A start launches the registers as they then stand, and leaves no blit queued.
 module _ (a : Adapter) (b : ℕ) (h : Starts a b) where
-  start-performed : after a (startWith b) ≡ perform (actOf (a .side) (write 5 true b)) a
+  start-performed : after a (startWith b) ≡ perform (actOf a (write 5 true b)) a
   unfolding after done
   start-performed = cond-yes _ a (eq-eqb (refusal a (startWith b)) 0 (h .accepted))
 
-  at-words : actOf (a .side) (write 5 true b) .start ≡ true
+  at-words : actOf a (write 5 true b) .start ≡ true
   unfolding actOf writeByte writeWord xrWrite
   at-words = eq-eqb (a .side .host .xr .wrxaddr .0) 0x49 (h .words)
 
-  started-is : after a (startWith b) ≡ blitStarted (carriedOut (actOf (a .side) (write 5 true b)) a)
+  started-is : after a (startWith b) ≡ blitStarted (carriedOut (actOf a (write 5 true b)) a)
   unfolding perform
   started-is = start-performed ∙ cond-yes _ _ at-words
 

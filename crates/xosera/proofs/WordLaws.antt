@@ -10,7 +10,7 @@ use borrow.Author.Tests.{eq-eqb, ne-eqb, ltb-true}
 use lib.Dec.{eqb, ltb}
 use lib.ListN.{length, set, length-set}
 use lib.Seq.{getD-set-same, getD-set-other}
-use Rattle.xosera.specs.State.{State, stateWords, wordsFrom, stateBy, wordAt, stateAt, regWords, laidOut}
+use Rattle.xosera.specs.State.{State, stateWords, wordsFrom, stateBy, wordAt, stateAt, regWords, beamWords, registerWords, laidOut}
 use Rattle.xosera.specs.Adapter.{adapter, adapterAt}
 
 -- Words read with another one at a place.
@@ -82,7 +82,7 @@ spelled (suc n) at word (w ∷ ws) h e =
 
 -- The words that a state is laid out in are those that it is read from.
 pub words-back : (ws : List ℕ) → length ws ≡ stateWords → laidOut (stateAt ws) ≡ ws
-unfolding laidOut regWords stateAt
+unfolding laidOut registerWords beamWords regWords stateAt
 words-back ws h = spelled stateWords 0 (wordAt ws) ws h (λ k. ap (wordAt ws) (omega arith))
 
 -- Two different lists of words are two different states: equal states are equal memory.

@@ -1,15 +1,16 @@
 -- An adapter: the state with both memories.
 use mathlib.Core.List.{List}
 use Prim.Native.Nat.{ℕ}
-use Rattle.xosera.specs.State.{Timer, XrPort, VramPort, Host, Video, State, stateAt}
+use Rattle.xosera.specs.State.{Timer, XrPort, VramPort, Host, Video, Beam, State, stateAt}
 use Rattle.xosera.specs.declared.BlitRegs.{BlitRegs}
 use Rattle.xosera.specs.declared.Engine.{Engine}
 
--- The host's side: all that a host access changes and no blit step touches.
+-- The host's side: all that a host access or a beam step changes and no blit step touches.
 pub record Side : Type 0 where
   pub host : Host
   pub video : Video
   pub blit : BlitRegs
+  pub beam : Beam
   pub xr : List ℕ
 
 -- The host's side, the interrupt status, the blitter and VRAM.
@@ -23,7 +24,7 @@ pub record Adapter : Type 0 where
 -- The adapter of a state and the two memories lent with it.
 abbrev pub adapter : State → List ℕ → List ℕ → Adapter
 adapter s vram xr = record {
-  side = record { host = s .host; video = s .video; blit = s .blit; xr = xr };
+  side = record { host = s .host; video = s .video; blit = s .blit; beam = s .beam; xr = xr };
   status = s .status;
   queued = s .queued;
   engine = s .engine;
@@ -40,6 +41,7 @@ stateOf a = record {
   host = a .side .host;
   video = a .side .video;
   blit = a .side .blit;
+  beam = a .side .beam;
   engine = a .engine;
   queued = a .queued;
   status = a .status;
@@ -47,7 +49,11 @@ stateOf a = record {
 
 -- A side with another host.
 abbrev pub withHost : Side → Host → Side
-withHost s h = record { host = h; video = s .video; blit = s .blit; xr = s .xr }
+withHost s h = record { host = h; video = s .video; blit = s .blit; beam = s .beam; xr = s .xr }
+
+-- A side with another beam.
+abbrev pub withBeam : Side → Beam → Side
+withBeam s b = record { host = s .host; video = s .video; blit = s .blit; beam = b; xr = s .xr }
 
 -- A host with one part changed.
 abbrev pub withTimer : Host → Timer → Host

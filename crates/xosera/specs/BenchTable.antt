@@ -138,10 +138,10 @@ countdownOfTwo =
 abbrev pub linesMod32768 : Row
 linesMod32768 = told (afterAll (bench []) (blit (LINES is 0x8000 ++ WORDS is 0))) (run 9 ∷ []) gives 1 ∷ []
 
--- 3 words running, 2 queued, run 4: count 4, busy, not full, bit 6.
+-- 3 words running, 2 queued, run 4: count 4, busy, not full, bit 6. After reset XM_SYS_CTRL also reads bit 11 (document 02, request 3).
 abbrev pub queuedRun : Row
 queuedRun =
-    told (afterAll (bench []) (blit (WORDS is 2 ++ WORDS is 1))) (run 4 ∷ call (read 0 false) ∷ call (read 1 true) ∷ []) gives 4 ∷ 0x20 ∷ 0x40 ∷ []
+    told (afterAll (bench []) (blit (WORDS is 2 ++ WORDS is 1))) (run 4 ∷ call (read 0 false) ∷ call (read 1 true) ∷ []) gives 4 ∷ 0x28 ∷ 0x40 ∷ []
 
 -- Queued, then write `ANDC`: refusal 5, write address as before.
 abbrev pub fullBlitter : Row

@@ -1,5 +1,5 @@
--- The calls of the base but reset (document 01, first paragraph, and "The order of things"). Save and load (document 02,
--- request 1) are no events.
+-- The calls but reset (document 01, first paragraph, and "The order of things"); among them, by document 02, request 3, a beam step and
+-- no frame end. Save and load (document 02, request 1) are no events.
 use mathlib.Core.Path.{_≡_}
 use mathlib.Core.Bool.{Bool, cond}
 use mathlib.Core.List.{List}
@@ -10,11 +10,11 @@ use Rattle.xosera.specs.declared.BlitAnswer.{BlitAnswer}
 use Rattle.xosera.specs.declared.StateAnswer.{StateAnswer}
 use Rattle.xosera.specs.declared.LineAnswer.{LineAnswer}
 
--- A host access by register number, even (false) or odd (true), and byte; a timer tick; a frame end; the line question.
+-- A host access by register number, even (false) or odd (true), and byte; a timer tick; a beam step; the line question.
 pub data Call : Type 0 where
   write : ℕ → Bool → ℕ → Call
   read : ℕ → Bool → Call
-  tick frameEnd line : Call
+  tick beam line : Call
 
 -- A call of these, a blit step, or a run of up to n blit steps.
 pub data Event : Type 0 where

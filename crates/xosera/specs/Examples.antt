@@ -6,8 +6,9 @@ use Prim.Native.Nat.{ℕ, zero, suc}
 use lib.ListN.{replicate}
 use Rattle.xosera.specs.Fields.{colourBase, isBlank, isBitmap, pixelDepth, hRepeat, vRepeat}
 use Rattle.xosera.specs.Adapter.{Adapter, withTimer, withLatches}
+use Rattle.xosera.specs.Beam.{rest}
 use Rattle.xosera.specs.Blitter.{noRegs, idle}
-use Rattle.xosera.specs.Events.{Event, write, read, tick, frameEnd, line, call, step, run}
+use Rattle.xosera.specs.Events.{Event, write, read, tick, beam, line, call, step, run}
 use Rattle.xosera.specs.Ranges.{resetState}
 use Rattle.xosera.specs.Sequences.{afterAll}
 use Rattle.xosera.specs.BenchTable.{CTRL, ANDC, XOR, MODS, SRCS, MODD, DSTD, SHIFT, LINES, WORDS, _is_, blit}
@@ -16,7 +17,7 @@ use Rattle.xosera.specs.BenchTable.{Row, _gives_, setWord, setXr, readWo
 -- An idle adapter with memories of any length and any interrupt status.
 abbrev pub lent : ℕ → ℕ → ℕ → Adapter
 lent vram xr status = record {
-  side = record { host = resetState .host; video = resetState .video; blit = resetState .blit; xr = replicate xr 0 };
+  side = record { host = resetState .host; video = resetState .video; blit = resetState .blit; beam = rest; xr = replicate xr 0 };
   status = status;
   queued = 0;
   engine = idle;
@@ -30,6 +31,7 @@ flagged latch saved queued running = record {
     host = withTimer (withLatches (resetState .host) (replicate 16 latch)) (record { count = 0; countdown = 0; interval = 0; saved = saved });
     video = resetState .video;
     blit = noRegs;
+    beam = rest;
     xr = replicate 6656 0;
   };
   status = 0;
@@ -99,11 +101,11 @@ laterRegisters =
     seen 0 2 (bench []) (blit (CTRL is 1 ++ SRCS is 0x1234 ++ WORDS is 1) ++ run 1 ∷ ANDC is 0x00FF ++ XOR is 0x1111 ++ run 9 ∷ [])
     gives 0x1234 ∷ 0x1234 ∷ []
 
--- A queued blit has the registers written last; busy and full, then busy, then neither.
+-- A queued blit has the registers written last; busy and full, then busy, then neither, all with the beam in left blanking.
 abbrev pub queuedRegisters : Row
 queuedRegisters =
     seen 0 3 twoBlits (run 9 ∷ []) ++ told twoBlits (call (read 0 false) ∷ run 1 ∷ call (read 0 false) ∷ run 9 ∷ call (read 0 false) ∷ [])
-    gives 0x1234 ∷ 0xFFFF ∷ 0x5678 ∷ 0x60 ∷ 1 ∷ 0x20 ∷ 1 ∷ 0x00 ∷ []
+    gives 0x1234 ∷ 0xFFFF ∷ 0x5678 ∷ 0x68 ∷ 1 ∷ 0x28 ∷ 1 ∷ 0x08 ∷ []
 
 -- A step counts 1 while words are left, and 0 on an idle engine; each blit's end sets bit 6.
 abbrev pub stepCounts : Row
@@ -137,15 +139,15 @@ xrMemories =
 -- The lowest number that applies: 1 before 2 before 3 before 4, and status 127 is in range.
 abbrev pub lowestRefusal : Row
 lowestRefusal =
-    refused (lent 128 6655 128) (call (write 16 true 0) ∷ call (read 16 false) ∷ call tick ∷ call frameEnd ∷ call line ∷ step ∷ run 1 ∷ [])
-    ++ refused (lent 256 6655 128) (call (write 16 true 0) ∷ call (read 16 false) ∷ call tick ∷ step ∷ run 1 ∷ [])
-    ++ refused (lent 256 6656 128) (call (write 16 true 0) ∷ call (read 16 false) ∷ call tick ∷ step ∷ run 1 ∷ [])
-    ++ refused (lent 256 6656 127) (call (write 16 true 0) ∷ call (read 16 false) ∷ call (read 15 false) ∷ call tick ∷ step ∷ run 1 ∷ [])
-    gives (1 ∷ 1 ∷ 3 ∷ 3 ∷ 3 ∷ 1 ∷ 1 ∷ []) ++ (2 ∷ 2 ∷ 3 ∷ 2 ∷ 2 ∷ []) ++ (3 ∷ 3 ∷ 3 ∷ 3 ∷ 3 ∷ []) ++ (4 ∷ 4 ∷ 0 ∷ 0 ∷ 0 ∷ 0 ∷ [])
+    refused (lent 128 6655 128) (call (write 16 true 0) ∷ call (read 16 false) ∷ call tick ∷ call beam ∷ call line ∷ step ∷ run 1 ∷ [])
+    ++ refused (lent 256 6655 128) (call (write 16 true 0) ∷ call (read 16 false) ∷ call tick ∷ call beam ∷ step ∷ run 1 ∷ [])
+    ++ refused (lent 256 6656 128) (call (write 16 true 0) ∷ call (read 16 false) ∷ call tick ∷ call beam ∷ step ∷ run 1 ∷ [])
+    ++ refused (lent 256 6656 127) (call (write 16 true 0) ∷ call (read 16 false) ∷ call (read 15 false) ∷ call tick ∷ call beam ∷ step ∷ run 1 ∷ [])
+    gives (1 ∷ 1 ∷ 3 ∷ 1 ∷ 3 ∷ 1 ∷ 1 ∷ []) ++ (2 ∷ 2 ∷ 3 ∷ 2 ∷ 2 ∷ 2 ∷ []) ++ (3 ∷ 3 ∷ 3 ∷ 3 ∷ 3 ∷ 3 ∷ []) ++ (4 ∷ 4 ∷ 0 ∷ 0 ∷ 0 ∷ 0 ∷ 0 ∷ [])
 
--- Timer tick, frame end and line question take only the state.
+-- Timer tick and line question take only the state.
 abbrev pub stateAlone : Row
-stateAlone = refused (lent 128 6655 127) (call tick ∷ call frameEnd ∷ call line ∷ []) gives 0 ∷ 0 ∷ 0 ∷ []
+stateAlone = refused (lent 128 6655 127) (call tick ∷ call line ∷ []) gives 0 ∷ 0 ∷ []
 
 -- Latches and the saved timer byte are bytes; a flag is 1 or 0, and a blit is queued only while one runs.
 abbrev pub flagsAndBytes : Row
@@ -162,11 +164,11 @@ reconfigureRefused =
     ++ told (afterAll (bench []) (setWord 1 0x8F00)) (call (read 1 false) ∷ []) ++ told (afterAll (bench []) (setWord 1 0x4000)) (call (read 1 false) ∷ [])
     gives 0 ∷ 6 ∷ 0 ∷ 0 ∷ 0x00 ∷ 0x40 ∷ []
 
--- A frame end sets bit 4; the line is up when the mask has it too, and down again when it is cleared.
+-- A write to 0x03 sets bit 4; the line is up when the mask has it too, and down again when it is cleared.
 abbrev pub lineUpAndDown : Row
 lineUpAndDown =
-    told (bench []) (call frameEnd ∷ call (read 1 true) ∷ call line ∷ setWord 1 0x1000 ++ call line ∷ setWord 1 0x1010 ++ call line ∷ [])
-    gives 0 ∷ 0x10 ∷ 0 ∷ 0 ∷ 0 ∷ 1 ∷ 0 ∷ 0 ∷ 0 ∷ []
+    told (afterAll (bench []) (setXr 3 0)) (call (read 1 true) ∷ call line ∷ setWord 1 0x1000 ++ call line ∷ setWord 1 0x1010 ++ call line ∷ [])
+    gives 0x10 ∷ 0 ∷ 0 ∷ 0 ∷ 1 ∷ 0 ∷ 0 ∷ 0 ∷ []
 
 -- A latch for each register.
 abbrev pub latchEach : Row
@@ -201,19 +203,19 @@ runMasks =
     ++ masked edgedTwice (run 3 ∷ run 1 ∷ []) ++ masked edgedTwice (run 4 ∷ [])
     gives 0 ∷ 7 ∷ 0xF ∷ 2 ∷ 0 ∷ 0xF ∷ 2 ∷ 8 ∷ 2 ∷ 2 ∷ []
 
--- Masks of writes: an odd data write's, at 10 and 11; none of any other or of a refused one, a read or a tick.
+-- Masks of writes: an odd data write's, at 10 and 11; none of any other or of a refused one, a read, a tick or a beam step.
 abbrev pub writeMasks : Row
 writeMasks =
     masked (bench []) (setWord 0 5 ++ setWord 10 0xFFFF ++ setWord 0 0xFA ++ setWord 11 0 ++ setWord 9 0xFFFF ++ setWord 5 0xFFFF ++ setWord 12 0xFFFF)
-    ++ masked (bench []) (call (write 26 true 0xFF) ∷ call (read 10 true) ∷ call tick ∷ [])
+    ++ masked (bench []) (call (write 26 true 0xFF) ∷ call (read 10 true) ∷ call tick ∷ call beam ∷ [])
     ++ masked (lent 128 6656 0) (call (write 10 true 0xFF) ∷ step ∷ run 1 ∷ [])
-    gives 0 ∷ 0 ∷ 0 ∷ 5 ∷ 0 ∷ 0 ∷ 0 ∷ 0xA ∷ 0 ∷ 0 ∷ 0 ∷ 0 ∷ 0 ∷ 0 ∷ 0 ∷ 0 ∷ 0 ∷ 0 ∷ 0 ∷ 0 ∷ []
+    gives 0 ∷ 0 ∷ 0 ∷ 5 ∷ 0 ∷ 0 ∷ 0 ∷ 0xA ∷ 0 ∷ 0 ∷ 0 ∷ 0 ∷ 0 ∷ 0 ∷ 0 ∷ 0 ∷ 0 ∷ 0 ∷ 0 ∷ 0 ∷ 0 ∷ []
 
--- Reset: nibble mask 15, XR_VID_RIGHT 640; 12 to 15 read 0 also when written.
+-- Reset: the beam in left blanking, nibble mask 15, XR_VID_RIGHT 640; 12 to 15 read 0 also when written.
 abbrev pub afterReset : Row
 afterReset =
     told (afterAll (bench []) (setWord 3 5 ++ setWord 12 0x1234 ++ setWord 15 0x1234)) (readWord 0 ++ readWord 5 ++ readWord 12 ++ readWord 15)
-    gives 0x00 ∷ 0x0F ∷ 0x02 ∷ 0x80 ∷ 0 ∷ 0 ∷ 0 ∷ 0 ∷ []
+    gives 0x08 ∷ 0x0F ∷ 0x02 ∷ 0x80 ∷ 0 ∷ 0 ∷ 0 ∷ 0 ∷ []
 
 -- The fields of GFX_CTRL 0xFFB6: base, blank, bitmap, depth, repeats.
 abbrev pub gfxFields : Row

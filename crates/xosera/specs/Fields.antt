@@ -3,7 +3,8 @@ use mathlib.Core.Bool.{Bool, cond}
 use Prim.Native.Nat.{ℕ, _+_, _/_, _%_}
 use Rattle.xosera.specs.Words.{bit}
 
--- The interrupt status ("Host bytes", last paragraph; "The blitter"): bit 4 is set by a frame end and by 0x03, bit 5 by the
+-- The interrupt status ("Host bytes", last paragraph; "The blitter"): bit 4 is set by the frame end, when the
+-- beam reaches line 480, and by a write to 0x03, bit 5 by the
 -- countdown, bit 6 by a blit's end.
 abbrev pub frameEnded : ℕ
 frameEnded = 16
@@ -36,10 +37,51 @@ wrMask w = w % 16
 pub record Flags : Type 0 where
   pub full : Bool
   pub busy : Bool
+  pub hblank : Bool
+  pub vblank : Bool
 
--- Bit 14 blitter full, bit 13 blitter busy: bits 6 and 5 of the high byte.
+-- Bit 14 blitter full, bit 13 blitter busy; bit 11 in left blanking, bit 10 from line 480 on (document 02, request 3): bits 6, 5,
+-- 3 and 2 of the high byte.
 unfoldable pub flagBits : Flags → ℕ
-flagBits f = cond (f .full) 64 0 + cond (f .busy) 32 0
+flagBits f = cond (f .full) 64 0 + cond (f .busy) 32 0 + cond (f .hblank) 8 0 + cond (f .vblank) 4 0
+
+-- XR_COPP_CTRL (document 02, request 3): bit 15 enables the copper.
+abbrev pub copperEnabled : ℕ → Bool
+copperEnabled ctrl = bit 15 ctrl
+
+-- The two words of a copper instruction (source document 001, "Co-processor Instruction Set"). Of the first: 15:13 the opcode; 10:0
+-- the line Y of WAIT and SKIP, and the word that JMP goes to; the low bits of a move are its address, 7:0 of MOVER, 12:0 of MOVEF, 8:0 of
+-- MOVEP, 10:0 of MOVEC.
+abbrev pub opcode : ℕ → ℕ
+opcode first = first / 8192
+
+abbrev pub waitLine : ℕ → ℕ
+waitLine first = first % 2048
+
+abbrev pub jumpWord : ℕ → ℕ
+jumpWord first = first % 2048
+
+abbrev pub registerNumber : ℕ → ℕ
+registerNumber first = first % 256
+
+abbrev pub tileWord : ℕ → ℕ
+tileWord first = first % 8192
+
+abbrev pub colourWord : ℕ → ℕ
+colourWord first = first % 512
+
+abbrev pub programWord : ℕ → ℕ
+programWord first = first % 2048
+
+-- Of the second: the data of a move; of WAIT and SKIP 14:4 the pixel X, bit 0 ignores the line, bit 1 the pixel.
+abbrev pub waitPixel : ℕ → ℕ
+waitPixel second = second / 16 % 2048
+
+abbrev pub ignoresLine : ℕ → Bool
+ignoresLine second = bit 0 second
+
+abbrev pub ignoresPixel : ℕ → Bool
+ignoresPixel second = bit 1 second
 
 -- XR_BLIT_CTRL ("The blitter", points 1 and 4): bit 0 a constant source, bit 4 the colour test, bit 5 on whole bytes,
 -- 15:8 the colour T.

@@ -8,6 +8,7 @@ use Rattle.xosera.specs.State.{Timer, Host, State, isSet}
 use Rattle.xosera.specs.Words.{wrap}
 use Rattle.xosera.specs.Fields.{intMask, intStatus, wrMask, Flags, flagBits}
 use Rattle.xosera.specs.Memories.{noStore}
+use Rattle.xosera.specs.Beam.{frame, hBlank, vBlank}
 use Rattle.xosera.specs.Adapter.{Side, withHost, withTimer, withXrPort, withVramPort}
 use Rattle.xosera.specs.Adapter.{withIntMask, withLatches, withRdXaddr, withWrXaddr, withNibbles, withRdIncr, withRdAddr, withWrIncr, withWrAddr}
 use Rattle.xosera.specs.Plan.{Act, quiet, unchanged, cleared}
@@ -23,7 +24,7 @@ latched h r b = withLatches h (set (h .latches) r (b % 256))
 
 -- The XR read address moves to a, and the XR read buffer is loaded from there.
 unfoldable pub xrLoaded : Side → ℕ → Side
-xrLoaded s a = withHost s (withXrPort (s .host) (withRdXaddr (s .host .xr) a (xrRead (s .video) (s .xr) a)))
+xrLoaded s a = withHost s (withXrPort (s .host) (withRdXaddr (s .host .xr) a (xrRead (s .video) (s .beam) (s .xr) a)))
 
 -- The VRAM read address moves to a, and the VRAM read buffer is loaded from there.
 unfoldable pub vramLoad : Side → ℕ → Act
@@ -121,9 +122,14 @@ shown h r =
     getD (0 ∷ 0 ∷ 0 ∷ h .xr .rdxaddr .0 ∷ h .xr .wrxaddr .0 ∷ h .xr .buffer
     ∷ h .vram .rdincr ∷ h .vram .rdaddr .0 ∷ h .vram .wrincr ∷ h .vram .wraddr .0 ∷ h .vram .buffer ∷ h .vram .buffer ∷ []) r 0
 
--- The flags of XM_SYS_CTRL: the blitter is full while a blit is queued, and busy while one runs.
+-- The flags of XM_SYS_CTRL: the blitter is full while a blit is queued, and busy while one runs; the blank flags go by the beam.
 abbrev pub flagsOf : State → Flags
-flagsOf s = record { full = isSet (s .queued); busy = isSet (s .engine .running) }
+flagsOf s = record {
+  full = isSet (s .queued);
+  busy = isSet (s .engine .running);
+  hblank = hBlank frame (s .beam);
+  vblank = vBlank (s .beam);
+}
 
 -- The high byte that an even read gives: of 0 the flags, of 1 the interrupt mask, of 2 the timer's, else of the word shown.
 unfoldable pub highByte : Host → Flags → ℕ → ℕ

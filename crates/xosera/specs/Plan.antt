@@ -1,4 +1,4 @@
--- What a call asks of the adapter, and carrying it out: host bytes, timer ticks and frame ends are all such acts.
+-- What a call asks of the adapter, and carrying it out: host bytes, timer ticks and beam steps are all such acts.
 use mathlib.Core.Path.{_≡_}
 use mathlib.Core.Bool.{Bool, false, cond}
 use mathlib.Core.List.{List}

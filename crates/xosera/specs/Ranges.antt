@@ -3,12 +3,13 @@ use mathlib.Core.Path.{_≡_}
 use mathlib.Core.Bool.{Bool, true, cond, not, _&&_, _||_}
 use mathlib.Core.List.{List, [], _∷_}
 use Prim.Native.Nat.{ℕ, _≤_}
-use lib.Dec.{leb, eqb}
+use lib.Dec.{leb, ltb, eqb}
 use lib.ListN.{replicate}
-use Rattle.xosera.specs.State.{Timer, Host, State, isSet}
+use Rattle.xosera.specs.State.{Timer, Host, Beam, State, isSet}
 use Rattle.xosera.specs.declared.BlitRegs.{BlitRegs}
 use Rattle.xosera.specs.declared.Engine.{Engine}
-use Rattle.xosera.specs.Fields.{allStatus}
+use Rattle.xosera.specs.Fields.{allStatus, copperEnabled}
+use Rattle.xosera.specs.Beam.{Frame, frame, programLength, rest}
 use Rattle.xosera.specs.Blitter.{noRegs, idle}
 
 -- Countdown 1 to its interval, or both 0.
@@ -55,12 +56,22 @@ idleInRange e = eqb (e .running) 0 && eqb (e .line) 0 && eqb (e .word) 0 && eqb 
 unfoldable pub engineInRange : Engine → Bool
 engineInRange e = cond (isSet (e .running)) (runningInRange e) (idleInRange e)
 
+-- Document 02, request 3: the beam inside the frame.
+unfoldable pub beamInRange : Frame → Beam → Bool
+beamInRange f b = ltb (b .line) (f .lines) && ltb (b .position) (f .positions)
+
+-- The copper "stopped while bit 15 is clear, at 0 when stopped", and its word inside the program.
+unfoldable pub copperInRange : ℕ → Beam → Bool
+copperInRange ctrl b = cond (isSet (b .running)) (copperEnabled ctrl && ltb (b .word) programLength) (eqb (b .running) 0 && eqb (b .word) 0)
+
 -- The state within its ranges: status at most 127, queued only while running, and the above. The flag `running` is 1, or 0 by
 -- the engine's range, so `queued` is at most 1 too.
 unfoldable pub inRange : State → Bool
-inRange s = hostInRange (s .host) && leb (s .status) allStatus && leb (s .queued) (s .engine .running) && engineInRange (s .engine)
+inRange s =
+    hostInRange (s .host) && leb (s .status) allStatus && leb (s .queued) (s .engine .running) && engineInRange (s .engine)
+    && beamInRange frame (s .beam) && copperInRange (s .video .coppctrl) (s .beam)
 
--- Reset: all 0 but nibble mask 15 and XR_VID_RIGHT 640.
+-- Reset: all 0 but nibble mask 15 and XR_VID_RIGHT 640; beam and copper at rest (document 02, request 3).
 abbrev pub resetState : State
 resetState = record {
   host = record {
@@ -72,6 +83,7 @@ resetState = record {
   };
   video = record { vidctrl = 0; coppctrl = 0; audctrl = 0; vidleft = 0; vidright = 640; pa = replicate 7 0; pb = replicate 7 0 };
   blit = noRegs;
+  beam = rest;
   engine = idle;
   queued = 0;
   status = 0;

@@ -12,7 +12,7 @@ use Rattle.xosera.specs.Adapter.{Adapter, stateOf}
 use Rattle.xosera.specs.XrSpace.{isBlitRegister}
 use Rattle.xosera.specs.HostBytes.{wordOf}
 use Rattle.xosera.specs.Ranges.{inRange}
-use Rattle.xosera.specs.Events.{Event, write, read, tick, frameEnd, line, call, step, run}
+use Rattle.xosera.specs.Events.{Event, write, read, tick, beam, line, call, step, run}
 
 -- 1: VRAM length not as "The memories lent" says.
 unfoldable pub badVram : Adapter → Bool
@@ -57,12 +57,12 @@ n when b = record { number = n; applies = b }
 abbrev pub lentTests : Adapter → List Test → List Test
 lentTests a more = (1 when badVram a) ∷ (2 when badXr a) ∷ (3 when badState a) ∷ more
 
--- The tests of an event, in their order. Timer tick, frame end and line question take only the state.
+-- The tests of an event, in their order. Timer tick and line question take only the state; "a beam step gives 1 to 3".
 unfoldable pub tests : Adapter → Event → List Test
 tests a (call (write r odd b)) = lentTests a ((4 when badRegister r) ∷ (5 when blitterFull a r odd) ∷ (6 when reconfigures a r odd b) ∷ [])
 tests a (call (read r odd)) = lentTests a ((4 when badRegister r) ∷ [])
 tests a (call tick) = (3 when badState a) ∷ []
-tests a (call frameEnd) = (3 when badState a) ∷ []
+tests a (call beam) = lentTests a []
 tests a (call line) = (3 when badState a) ∷ []
 tests a step = lentTests a []
 tests a (run n) = lentTests a []

@@ -50,6 +50,14 @@ pub record Video : Type 0 where
   pub pa : List ℕ
   pub pb : List ℕ
 
+-- The video beam and the copper (document 02, request 3): the line and the position on it where the beam is, from 0; whether the
+-- copper runs, a flag; and the word of its program that comes next.
+pub record Beam : Type 0 where
+  pub line : ℕ
+  pub position : ℕ
+  pub running : ℕ
+  pub word : ℕ
+
 -- The whole state. `queued` is a flag, as is `running` of the engine.
 pub record State : Type 0 where
   pub host : Host
@@ -58,6 +66,7 @@ pub record State : Type 0 where
   pub engine : Engine
   pub video : Video
   pub blit : BlitRegs
+  pub beam : Beam
 
 -- Whether a flag is set.
 abbrev pub isSet : ℕ → Bool
@@ -65,7 +74,7 @@ isSet flag = eqb flag 1
 
 -- The words of a state.
 abbrev pub stateWords : ℕ
-stateWords = 75
+stateWords = 79
 
 -- n words from a place on.
 abbrev pub wordsFrom : ℕ → ℕ → (ℕ → ℕ) → List ℕ
@@ -117,6 +126,7 @@ stateBy word = record {
     pb = wordsFrom 7 58 word;
   };
   blit = regsFrom 65 word;
+  beam = record { line = word 75; position = word 76; running = word 77; word = word 78 };
 }
 
 -- The word at a place.
@@ -132,9 +142,14 @@ unfoldable pub regWords : BlitRegs → List ℕ
 regWords r =
     r .ctrl ∷ r .andc ∷ r .xor ∷ r .mods ∷ r .srcs ∷ r .modd ∷ r .dstd ∷ r .shift ∷ r .lines ∷ r .words ∷ []
 
--- The words of a state, in their order: its fields one after another. A saved file has them so (document 02, request 1).
-unfoldable pub laidOut : State → List ℕ
-laidOut s =
+-- The words of beam and copper.
+unfoldable pub beamWords : Beam → List ℕ
+beamWords b = b .line ∷ b .position ∷ b .running ∷ b .word ∷ []
+
+-- All words of a state but those of beam and copper, in their order: its fields one after another. A saved file has these (document 02,
+-- request 1).
+unfoldable pub registerWords : State → List ℕ
+registerWords s =
     let h = s .host in
     let v = s .video in
     let e = s .engine in
@@ -143,3 +158,7 @@ laidOut s =
     ++ (h .timer .count ∷ h .timer .countdown ∷ h .timer .interval ∷ h .timer .saved ∷ h .intmask ∷ s .queued ∷ s .status ∷ [])
     ++ (e .running ∷ e .line ∷ e .word ∷ e .kept ∷ []) ++ regWords (e .regs)
     ++ (v .vidctrl ∷ v .coppctrl ∷ v .audctrl ∷ v .vidleft ∷ v .vidright ∷ []) ++ v .pa ++ v .pb ++ regWords (s .blit)
+
+-- All words of a state.
+unfoldable pub laidOut : State → List ℕ
+laidOut s = registerWords s ++ beamWords (s .beam)

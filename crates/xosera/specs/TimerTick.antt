@@ -1,10 +1,10 @@
--- Timer ticks and frame ends (document 01, "Host bytes", last paragraph).
+-- Timer ticks (document 01, "Host bytes", last paragraph).
 use mathlib.Core.Bool.{Bool, false, cond}
 use Prim.Native.Nat.{ℕ, _-_}
 use lib.Dec.{eqb}
 use Rattle.xosera.specs.State.{Timer}
 use Rattle.xosera.specs.Words.{wrap}
-use Rattle.xosera.specs.Fields.{frameEnded, timerExpired}
+use Rattle.xosera.specs.Fields.{timerExpired}
 use Rattle.xosera.specs.Memories.{noStore}
 use Rattle.xosera.specs.Adapter.{Side, withHost, withTimer}
 use Rattle.xosera.specs.Plan.{Act, unchanged, raised}
@@ -30,7 +30,3 @@ tick s = record {
   start = false;
   status = cond (expires (s .host .timer)) (raised timerExpired) unchanged;
 }
-
--- A frame end sets status bit 4.
-unfoldable pub frameEnd : Side → Act
-frameEnd s = record { side = s; store = noStore; load = false; start = false; status = raised frameEnded }

@@ -58,7 +58,7 @@ pub struct BlitAnswer {
     pub count: u64,
 }
 
-// What a timer tick and a frame end answer.
+// What a timer tick and a beam step answer.
 #[repr(C)]
 pub struct StateAnswer {
     pub refusal: u8,
@@ -85,7 +85,7 @@ pub struct LoadAnswer {
 }
 
 // How many words a state has, and which of them stands for which field (specs/State.antt).
-pub const STATE_WORDS: usize = 75;
+pub const STATE_WORDS: usize = 79;
 
 // Sixteen latches, one for each main register.
 pub const LATCHES: usize = 0;
@@ -172,6 +172,15 @@ pub const PLAYFIELD_B: usize = 58;
 // The blitter's ten registers as the host wrote them.
 pub const BLIT_REGS: usize = 65;
 
+// The video beam and the copper.
+pub const BEAM_LINE: usize = 75;
+
+pub const BEAM_POSITION: usize = 76;
+
+pub const COPPER_RUNNING: usize = 77;
+
+pub const COPPER_WORD: usize = 78;
+
 // The bits of the interrupt status (specs/Fields.antt).
 pub const FRAME_ENDED: u16 = 16;
 
@@ -183,3 +192,21 @@ pub const BLIT_DONE: u16 = 64;
 pub const BLITTER_FULL: u8 = 64;
 
 pub const BLITTER_BUSY: u8 = 32;
+
+pub const HBLANK: u8 = 8;
+
+pub const VBLANK: u8 = 4;
+
+// The frame (specs/Beam.antt): the positions of a line, the first of which are blank, its lines, and those that are visible.
+pub const POSITIONS: u16 = 800;
+
+pub const BLANK: u16 = 160;
+
+pub const LINES: u16 = 525;
+
+pub const VISIBLE_LINES: u16 = 480;
+
+// The words of a copper program, and where it begins in XR memory.
+pub const PROGRAM: u16 = 1024;
+
+pub const COPPER_MEMORY: usize = 5632;
