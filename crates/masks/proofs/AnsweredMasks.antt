@@ -16,7 +16,8 @@ use Rattle.xosera.specs.Plan.{Act}
 use Rattle.xosera.specs.XrSpace.{xrWrite}
 use Rattle.xosera.specs.HostBytes.{vramLoad, writeNothing, writes, writeWord, writeByte, readByte}
 use Rattle.xosera.specs.TimerTick as TimerTick
-use Rattle.xosera.specs.Events.{Call, Event, write, read, tick, frameEnd, line, call, step, run}
+use Rattle.xosera.specs.Copper.{beamStep}
+use Rattle.xosera.specs.Events.{Call, Event, write, read, tick, beam, line, call, step, run}
 use Rattle.xosera.specs.Ranges.{hostInRange, inRange}
 use Rattle.xosera.specs.Refusals.{Fit, tests, refusal}
 use Rattle.xosera.specs.Calls.{actOf, done, after, given, wrote, answer}
@@ -86,7 +87,7 @@ module _ (s : Side) (w : ℕ) where
       (λ r past. rw (ne-eqb r 10 (omega arith), ne-eqb r 11 (omega arith)))
 
 pub call-wrote : (a : Adapter) (c : Call) → wrote a (call c) ≡ callMask a c
-unfolding wrote actOf writeByte readByte vramLoad TimerTick.tick TimerTick.frameEnd
+unfolding wrote actOf writeByte readByte vramLoad TimerTick.tick beamStep
 call-wrote a (write r true b) = word-mask (a .side) _ r
 call-wrote a (write r false b) = refl
 call-wrote a (read r true) =
@@ -94,7 +95,7 @@ call-wrote a (read r true) =
     (cond-either (λ (p : Act). p .store .mask ≡ 0) (eqb r 10 || eqb r 11) _ _ refl refl)
 call-wrote a (read r false) = cond-either (λ (p : Act). p .store .mask ≡ 0) (eqb r 2) _ _ refl refl
 call-wrote a tick = refl
-call-wrote a frameEnd = refl
+call-wrote a beam = refl
 call-wrote a line = refl
 
 call-answer : (a : Adapter) (c : Call) → refusal a (call c) ≡ 0 → answer a (call c) .mask ≡ callMask a c

@@ -13,7 +13,7 @@ use Rattle.xosera.specs.Fields.{colourTested, wholeBytes, testColour, firstEdge
 use Rattle.xosera.specs.Memories.{place, word}
 use Rattle.xosera.specs.Adapter.{Adapter}
 use Rattle.xosera.specs.Blitter.{fetched, sourced, lastWord}
-use Rattle.xosera.specs.Events.{Call, Event, write, read, tick, frameEnd, line, call, step, run}
+use Rattle.xosera.specs.Events.{Call, Event, write, read, tick, beam, line, call, step, run}
 use Rattle.xosera.specs.Refusals.{refusal}
 use Rattle.xosera.specs.Calls.{after, answer}
 
@@ -52,7 +52,7 @@ abbrev pub callMask : Adapter → Call → ℕ
 callMask a (write r odd b) = cond (odd && (eqb r 10 || eqb r 11)) (a .side .host .vram .nibbles) 0
 callMask a (read r odd) = 0
 callMask a tick = 0
-callMask a frameEnd = 0
+callMask a beam = 0
 callMask a line = 0
 
 pub record Masks : Type 0 where

@@ -1,0 +1,3 @@
+-- Whole frames, and a stopped copper.
+pub mod FrameLaws
+pub mod FramesHold
