@@ -1,7 +1,11 @@
 // What byte reads of the main registers give.
+use xosera::BEAM_LINE;
+use xosera::BEAM_POSITION;
+use xosera::BLANK;
 use xosera::BLITTER_BUSY;
 use xosera::BLITTER_FULL;
 use xosera::DATA;
+use xosera::HBLANK;
 use xosera::INT_MASK;
 use xosera::NIBBLES;
 use xosera::QUEUED;
@@ -12,6 +16,8 @@ use xosera::RUNNING;
 use xosera::SAVED;
 use xosera::STATUS;
 use xosera::TIMER;
+use xosera::VBLANK;
+use xosera::VISIBLE_LINES;
 use xosera::WR_ADDR;
 use xosera::WR_INCR;
 use xosera::WR_XADDR;
@@ -21,7 +27,7 @@ ghost use mathlib.Core.Bool.{true, cond};
 ghost use mathlib.Core.List.{List};
 ghost use Prim.Native.Nat.{ℕ, _≤_};
 ghost use lib.ListN.{length};
-ghost use Rattle.xosera.specs.State.{isSet, stateWords, stateAt};
+ghost use Rattle.xosera.specs.State.{stateWords, stateAt};
 ghost use Rattle.xosera.specs.Fields.{flagBits};
 ghost use Rattle.xosera.specs.Adapter.{adapterAt};
 ghost use Rattle.xosera.specs.HostBytes.{shown, flagsOf, highByte, lowByte};
@@ -49,17 +55,20 @@ fn shown(s: &[u16], reg: u8) -> u16
 }
 
 // A flag as a bit of a byte.
-fn flag(set: u16, bit: u8) -> u8
-    ensures { λ r. ⌜ (r ≡ cond (isSet set) bit 0) × (r ≤ bit) ⌝ }
+fn flag(set: bool, bit: u8) -> u8
+    ensures { λ r. ⌜ (r ≡ cond set bit 0) × (r ≤ bit) ⌝ }
 {
-    if set == 1 { bit } else { 0 }
+    if set { bit } else { 0 }
 }
 
-// The blitter's flags in the high byte of XM_SYS_CTRL.
-fn flags(full: u16, busy: u16) -> u8
-    ensures { λ r. ⌜ r ≡ flagBits (record { full = isSet full; busy = isSet busy }) ⌝ }
+// The flags in the high byte of XM_SYS_CTRL: the blitter's and the beam's.
+fn flags(s: &[u16]) -> u8
+    requires { ⌜ length (now s) ≡ stateWords ⌝ }
+    ensures { λ r. ⌜ r ≡ flagBits (flagsOf (stateAt (now (s .entry)))) ⌝ }
 {
-    flag(full, BLITTER_FULL) + flag(busy, BLITTER_BUSY)
+    let blitter = flag(s[QUEUED] == 1, BLITTER_FULL) + flag(s[RUNNING] == 1, BLITTER_BUSY);
+    let beam = flag(s[BEAM_POSITION] < BLANK, HBLANK) + flag(s[BEAM_LINE] >= VISIBLE_LINES, VBLANK);
+    blitter + beam
 }
 
 // The byte of an even read.
@@ -71,7 +80,7 @@ fn high_byte(s: &[u16], reg: u8) -> u8
         ⌝ }
 {
     match reg {
-        0 => flags(s[QUEUED], s[RUNNING]),
+        0 => flags(s),
         1 => words::low_byte(s[INT_MASK]),
         2 => words::high_byte(s[TIMER]),
         _ => words::high_byte(shown(s, reg)),

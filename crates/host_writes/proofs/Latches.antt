@@ -34,6 +34,7 @@ withLatch s r b = record {
   engine = s .engine;
   video = s .video;
   blit = s .blit;
+  beam = s .beam;
 }
 
 latch-put : (word : ℕ → ℕ) (b r : ℕ) → r < 16 → stateBy (put r b word) ≡ withLatch (stateBy word) r b

@@ -13,7 +13,8 @@ use Rattle.xosera.specs.Adapter.{stateOf, adapter}
 use Rattle.xosera.specs.Blitter.{succeeding, blitEnded}
 use Rattle.xosera.specs.Ranges.{inRange}
 use Rattle.xosera.proofs.EngineLaws.{running-in-range, succeeding-in-range}
-use Rattle.xosera.proofs.RangeLaws.{in-range-host, in-range-status, in-range-queue, in-range-unqueued, parts-in-range, status-raised}
+use Rattle.xosera.proofs.RangeLaws.{in-range-host, in-range-status, in-range-queue, in-range-unqueued, parts-in-range}
+use Rattle.xosera.proofs.RangeLaws.{status-raised, in-range-beam, in-range-copper}
 use Rattle.engine.specs.Progress.{Going, Ended}
 use Rattle.engine_words.specs.Held.{withEngine}
 use Rattle.queue.specs.OneBlit.{OneBlit}
@@ -40,7 +41,7 @@ module _ (s : State) (v : List ℕ) (n : ℕ) (r : inRange s ≡ true) where
     fewer = omega (arith, d .words-left);
     in-range =
         parts-in-range _ (in-range-host s r) (status-raised blitDone (s .status) (omega arith) (in-range-status s r)) (omega arith)
-        (succeeding-in-range (isSet (s .queued)) (s .blit));
+        (succeeding-in-range (isSet (s .queued)) (s .blit)) (in-range-beam s r) (in-range-copper s r);
     vram-length = d .vram-length;
     unqueued = λ _. refl;
     idle = λ _ q. succeeding-idle (s .queued) (s .blit) q;
@@ -53,7 +54,7 @@ module _ (s : State) (v : List ℕ) (n : ℕ) (r : inRange s ≡ true) where
     in-range =
         parts-in-range _ (in-range-host s r) (in-range-status s r)
         (omega (arith, in-range-queue s r, eqb-true (s .engine .running) 1 on, eqb-true (e .running) 1 (g .goes-on .runs)))
-        (running-in-range e (g .goes-on));
+        (running-in-range e (g .goes-on)) (in-range-beam s r) (in-range-copper s r);
     vram-length = g .vram-length;
     unqueued = λ h. absurd (h refl);
     idle = λ h _. absurd (h refl);

@@ -16,7 +16,7 @@ use Rattle.engine_words.specs.Held.{withEngine}
 
 -- A state with another flag `queued`.
 abbrev withQueued : State → ℕ → State
-withQueued s q = record { host = s .host; queued = q; status = s .status; engine = s .engine; video = s .video; blit = s .blit }
+withQueued s q = record { host = s .host; queued = q; status = s .status; engine = s .engine; video = s .video; blit = s .blit; beam = s .beam }
 
 module _ (ws : List ℕ) (size : length ws ≡ stateWords) (v x : List ℕ) where
   queued-state : (q : ℕ) → stateAt (set ws 30 q) ≡ withQueued (stateAt ws) q

@@ -8,7 +8,7 @@ use borrow.Author.Tests.{lt-leb, le-ltb}
 use lib.Dec.{leb}
 use lib.ListN.{getD, take, drop, List·getD-eq-default}
 use lib.Seq.{getD-take, getD-drop}
-use Rattle.xosera.specs.State.{Video}
+use Rattle.xosera.specs.State.{Video, Beam}
 use Rattle.xosera.specs.XrSpace.{within, lowRegisters, registerRead}
 use Rattle.xosera.proofs.Branches.{parts}
 
@@ -35,10 +35,10 @@ above-range base n a h = rw (le-ltb a (base + n) h) (and-false (leb base a))
     and-false false = refl
 
 -- No register reads back from 0x20 on.
-pub no-register : (v : Video) (a : ℕ) → 0x20 ≤ a → registerRead v a ≡ 0
+pub no-register : (v : Video) (b : Beam) (a : ℕ) → 0x20 ≤ a → registerRead v b a ≡ 0
 unfolding registerRead
-no-register v a h =
-    rw (above-range 0x10 7 a (omega arith), above-range 0x18 7 a (omega arith)) (List·getD-eq-default (lowRegisters v) 0 {n = a} (omega arith))
+no-register v b a h =
+    rw (above-range 0x10 7 a (omega arith), above-range 0x18 7 a (omega arith)) (List·getD-eq-default (lowRegisters v b) 0 {n = a} (omega arith))
 
 -- A word of a part is one of the whole.
 pub part-word : (xs : List ℕ) (from n i : ℕ) → i < n → getD (take n (drop from xs)) i 0 ≡ getD xs (from + i) 0

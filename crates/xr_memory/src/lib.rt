@@ -3,7 +3,7 @@ use xosera::XrAddr;
 ghost use mathlib.Core.Path.{_≡_};
 ghost use Prim.Native.Nat.{_<_, _≤_};
 ghost use lib.ListN.{length, getD, set};
-ghost use Rattle.xosera.specs.State.{Video};
+ghost use Rattle.xosera.specs.State.{Video, Beam};
 ghost use Rattle.xosera.specs.XrSpace.{within, xrRead, xrMemoryWrite};
 
 // Whether an address is one of the n from base on.
@@ -57,7 +57,7 @@ pub fn store(xr: &mut [u16], a: XrAddr, w: u16)
 pub fn load(xr: &[u16], a: XrAddr) -> u16
     requires { ⌜ length (now xr) ≡ 6656 ⌝ }
     requires { ⌜ 0x4000 ≤ a .0 ⌝ }
-    ensures { λ r. ⌜ ((v : Video) → r ≡ xrRead v (now (xr .entry)) (a .0)) ⌝ }
+    ensures { λ r. ⌜ ((v : Video) (b : Beam) → r ≡ xrRead v b (now (xr .entry)) (a .0)) ⌝ }
 {
     let at = a.0;
     if within(0x4000, 5120, at) {

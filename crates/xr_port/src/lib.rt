@@ -1,4 +1,7 @@
-// The XR data port, XM_XDATA: reads through the read buffer, writes anywhere in the XR space.
+// The XR data port, XM_XDATA: reads through the read buffer, writes anywhere in the XR space. The copper's MOVER uses
+// write_register too.
+use xosera::COPPER_RUNNING;
+use xosera::COPPER_WORD;
 use xosera::FRAME_ENDED;
 use xosera::RD_XADDR;
 use xosera::STATUS;
@@ -7,27 +10,58 @@ use xosera::XDATA;
 use xosera::XrAddr;
 ghost use mathlib.Core.Path.{_≡_};
 ghost use mathlib.Core.List.{List};
-ghost use Prim.Native.Nat.{ℕ, _<_};
+ghost use Prim.Native.Nat.{ℕ, _<_, _≤_};
 ghost use lib.ListN.{length};
-ghost use Rattle.xosera.specs.State.{stateWords};
+ghost use Rattle.xosera.specs.State.{stateWords, stateAt};
 ghost use Rattle.xosera.specs.Adapter.{Side};
 ghost use Rattle.xosera.specs.Plan.{quiet, Performs};
 ghost use Rattle.xosera.specs.XrSpace.{xrWrite};
 ghost use Rattle.xosera.specs.HostBytes.{xrLoaded, writeXdata, readXdata};
+ghost use Rattle.xr_port.specs.Stops.{controlled};
 
-// A write to a register: 0x03 sets status bit 4, 0x49 also starts or queues a blit.
-fn write_register(s: &mut [u16], at: u16, w: u16)
+// XR_COPP_CTRL written: with bit 15 clear the copper stops, back at 0.
+fn control_copper(s: &mut [u16], w: u16)
+    requires { ⌜ length (now s) ≡ stateWords ⌝ }
+    ensures { λ _. ⌜ stateAt (now (s .exit)) ≡ controlled (stateAt (now (s .entry))) w ⌝ }
+{
+    if words::bit(15, w) {
+        return;
+    }
+    s[COPPER_RUNNING] = 0;
+    s[COPPER_WORD] = 0;
+}
+
+// A write to a register from 0x10 on: 0x49 also starts or queues a blit.
+fn write_high(s: &mut [u16], at: u16, w: u16)
+    requires { ⌜ length (now s) ≡ stateWords ⌝ }
+    requires { ⌜ at < 0x4000 ⌝ }
+    requires { ⌜ 0x10 ≤ at ⌝ }
+    ensures { λ _. ⌜ ((v x : List ℕ) → Performs (λ (side : Side). xrWrite side at w) (now (s .entry)) v x (now (s .exit)) v x) ⌝ }
+{
+    xr_registers::store_register(s, at, w);
+    if at == 0x49 {
+        queue::start(s);
+    }
+}
+
+// A write to a register: below 0x10, 0x03 sets status bit 4 and 0x01 may stop the copper. Registers from 0x10 on are a function of
+// their own, so that the compiler puts this one into its callers.
+pub fn write_register(s: &mut [u16], at: u16, w: u16)
     requires { ⌜ length (now s) ≡ stateWords ⌝ }
     requires { ⌜ at < 0x4000 ⌝ }
     ensures { λ _. ⌜ ((v x : List ℕ) → Performs (λ (side : Side). xrWrite side at w) (now (s .entry)) v x (now (s .exit)) v x) ⌝ }
 {
+    if at >= 0x10 {
+        write_high(s, at, w);
+        return;
+    }
     if at == 3 {
         s[STATUS] = s[STATUS] | FRAME_ENDED;
         return;
     }
     xr_registers::store_register(s, at, w);
-    if at == 0x49 {
-        queue::start(s);
+    if at == 1 {
+        control_copper(s, w);
     }
 }
 

@@ -59,19 +59,19 @@ written-at word w =
     and refl and refl and refl and refl and refl and refl and refl and refl and refl and refl and refl and refl and refl and refl and refl
     and refl and refl and refl and refl and refl and refl and refl and refl and refl and refl and refl and refl and refl and refl and tt)
 
--- A register's word is what the register reads, but for LINE_ADDR of the two playfields.
-pub read-at : (word : ℕ → ℕ) (a : ℕ) → a < 0x20 → (a ≡ 0x15 → ⊥) → (a ≡ 0x1D → ⊥)
-    → cond (ltb (registerPlace a) stateWords) (word (registerPlace a)) 0 ≡ registerRead (stateBy word .video) a
+-- A register's word is what the register reads, but for XR_SCANLINE and LINE_ADDR of the two playfields.
+pub read-at : (word : ℕ → ℕ) (a : ℕ) → a < 0x20 → (a ≡ 0x15 → ⊥) → (a ≡ 0x1D → ⊥) → (a ≡ 3 → ⊥)
+    → cond (ltb (registerPlace a) stateWords) (word (registerPlace a)) 0 ≡ registerRead (stateBy word .video) (stateBy word .beam) a
 unfolding registerPlace within registerRead playfieldRead
 read-at word =
-    below-each (λ (a : ℕ). (a ≡ 0x15 → ⊥) → (a ≡ 0x1D → ⊥)
-    → cond (ltb (registerPlace a) stateWords) (word (registerPlace a)) 0 ≡ registerRead (stateBy word .video) a) 0x20
-    ((λ n m. refl) and (λ n m. refl) and (λ n m. refl) and (λ n m. refl) and (λ n m. refl) and (λ n m. refl)
-    and (λ n m. refl) and (λ n m. refl) and (λ n m. refl) and (λ n m. refl) and (λ n m. refl) and (λ n m. refl)
-    and (λ n m. refl) and (λ n m. refl) and (λ n m. refl) and (λ n m. refl) and (λ n m. refl) and (λ n m. refl)
-    and (λ n m. refl) and (λ n m. refl) and (λ n m. refl) and (λ n m. absurd (n refl)) and (λ n m. refl) and (λ n m. refl)
-    and (λ n m. refl) and (λ n m. refl) and (λ n m. refl) and (λ n m. refl) and (λ n m. refl) and (λ n m. absurd (m refl))
-    and (λ n m. refl) and (λ n m. refl) and tt)
+    below-each (λ (a : ℕ). (a ≡ 0x15 → ⊥) → (a ≡ 0x1D → ⊥) → (a ≡ 3 → ⊥)
+    → cond (ltb (registerPlace a) stateWords) (word (registerPlace a)) 0 ≡ registerRead (stateBy word .video) (stateBy word .beam) a) 0x20
+    ((λ n m l. refl) and (λ n m l. refl) and (λ n m l. refl) and (λ n m l. absurd (l refl)) and (λ n m l. refl) and (λ n m l. refl)
+    and (λ n m l. refl) and (λ n m l. refl) and (λ n m l. refl) and (λ n m l. refl) and (λ n m l. refl) and (λ n m l. refl)
+    and (λ n m l. refl) and (λ n m l. refl) and (λ n m l. refl) and (λ n m l. refl) and (λ n m l. refl) and (λ n m l. refl)
+    and (λ n m l. refl) and (λ n m l. refl) and (λ n m l. refl) and (λ n m l. absurd (n refl)) and (λ n m l. refl) and (λ n m l. refl)
+    and (λ n m l. refl) and (λ n m l. refl) and (λ n m l. refl) and (λ n m l. refl) and (λ n m l. refl) and (λ n m l. absurd (m refl))
+    and (λ n m l. refl) and (λ n m l. refl) and tt)
 
 -- An address that is none of the five registers below 0x10 has no word.
 pub unlisted : (a : ℕ) → (a ≡ 0 → ⊥) → (a ≡ 1 → ⊥) → (a ≡ 2 → ⊥) → (a ≡ 4 → ⊥) → (a ≡ 5 → ⊥)

@@ -27,4 +27,5 @@ registerWritten s a w = record {
   engine = s .engine;
   video = videoWrite (s .video) a w;
   blit = blitWrite (s .blit) a w;
+  beam = s .beam;
 }

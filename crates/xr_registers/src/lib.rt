@@ -1,5 +1,6 @@
 // The stored registers of the XR space, as words of the state.
 use xosera::AUD_CTRL;
+use xosera::BEAM_LINE;
 use xosera::BLIT_REGS;
 use xosera::COPP_CTRL;
 use xosera::PLAYFIELD_A;
@@ -39,10 +40,10 @@ fn register_place(at: u16) -> usize
     }
 }
 
-// A register read back. The playfields' LINE_ADDR and the blitter's registers read 0.
+// A register read. XR_SCANLINE reads the beam's line, the playfields' LINE_ADDR and the blitter's registers read 0.
 fn register_read(s: &[u16], at: u16) -> u16
     requires { ⌜ length (now s) ≡ stateWords ⌝ }
-    ensures { λ r. ⌜ r ≡ registerRead (stateAt (now (s .entry)) .video) at ⌝ }
+    ensures { λ r. ⌜ r ≡ registerRead (stateAt (now (s .entry)) .video) (stateAt (now (s .entry)) .beam) at ⌝ }
 {
     if at >= 0x20 {
         return 0;
@@ -52,6 +53,9 @@ fn register_read(s: &[u16], at: u16) -> u16
     }
     if at == 0x1D {
         return 0;
+    }
+    if at == 3 {
+        return s[BEAM_LINE];
     }
     let i = register_place(at);
     if i < STATE_WORDS {
@@ -75,7 +79,7 @@ pub fn store_register(s: &mut [u16], at: u16, w: u16)
 pub fn xr_read(s: &[u16], xr: &[u16], a: XrAddr) -> u16
     requires { ⌜ length (now s) ≡ stateWords ⌝ }
     requires { ⌜ length (now xr) ≡ 6656 ⌝ }
-    ensures { λ r. ⌜ r ≡ xrRead (stateAt (now (s .entry)) .video) (now (xr .entry)) (a .0) ⌝ }
+    ensures { λ r. ⌜ r ≡ xrRead (stateAt (now (s .entry)) .video) (stateAt (now (s .entry)) .beam) (now (xr .entry)) (a .0) ⌝ }
 {
     let at = a.0;
     if at >= 0x4000 {

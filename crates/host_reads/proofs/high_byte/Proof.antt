@@ -9,12 +9,6 @@ use borrow.Author.Needs.{needs}
 use Rattle.host_reads.proofs.high_byte.Statement.{statement}
 use Rattle.host_reads.proofs.high_byte.Tie as tie
 
-shared-slice-read-flags : tie.Need-shared-slice-read-flags
-shared-slice-read-flags c = search needs
-
-shared-slice-read-flags-2 : tie.Need-shared-slice-read-flags-2
-shared-slice-read-flags-2 c = search needs
-
 flags-requires : tie.Need-flags-requires
 flags-requires c κs = search needs
 
@@ -39,7 +33,7 @@ high-byte-requires-2 c κs = search needs
 returns : tie.Need-returns
 unfolding stateAt highByte
 returns c =
-    let at-match = c .before .before .before in
+    let at-match = c .before in
     rw (at-match .match .keys1) (c .flags .ensures)
 
 returns-2 : tie.Need-returns-2
@@ -68,8 +62,6 @@ pub high-byte-spec : {M : Type 1} → statement M
 high-byte-spec =
     tie.close
     (tie.spec
-    shared-slice-read-flags
-    shared-slice-read-flags-2
     flags-requires
     shared-slice-read-low-byte
     low-byte-requires

@@ -28,7 +28,7 @@ shared-slice-read-result c =
 
 returns : tie.Need-returns
 unfolding xrRead
-returns c = λ v. rw (tested (c .before .before .within .ensures) (c .before .if1 .taken))
+returns c = λ v b. rw (tested (c .before .before .within .ensures) (c .before .if1 .taken))
 
 within-requires-2 : tie.Need-within-requires-2
 within-requires-2 c κs = search needs
@@ -61,7 +61,7 @@ returns-2 c =
     let s = two .before .before .before .before in
     let at = s .args .a .0 in
     let here = inside 0x8000 512 at (two .within2 .ensures) (c .before .before .if2 .taken) in
-    λ v. rw (tested (two .before .before .within .ensures) (two .before .if1 .left), tested (two .within2 .ensures) (c .before .before .if2 .taken))
+    λ v b. rw (tested (two .before .before .within .ensures) (two .before .if1 .left), tested (two .within2 .ensures) (c .before .before .if2 .taken))
     (c .get-word .ensures ∙ part-word (s .args .xr .now) 5120 512 (at - 0x8000) (omega (arith, here)))
 
 within-requires-3 : tie.Need-within-requires-3
@@ -89,7 +89,7 @@ unfolding xrRead
 returns-3 c =
     let three = c .before .before in
     let two = three .before .before in
-    λ v. rw (
+    λ v b. rw (
       tested (two .before .before .within .ensures) (two .before .if1 .left),
       tested (two .within2 .ensures) (three .before .if2 .left),
       tested (three .within3 .ensures) (c .before .if3 .taken),
@@ -101,11 +101,11 @@ returns-4 c =
     let three = c .before in
     let two = three .before .before in
     let s = two .before .before .before .before in
-    λ v. rw (
+    λ v b. rw (
       tested (two .before .before .within .ensures) (two .before .if1 .left),
       tested (two .within2 .ensures) (three .before .if2 .left),
       tested (three .within3 .ensures) (c .if3 .left),
-    ) (sym (no-register v (s .args .a .0) (omega (arith, s .pre .1))))
+    ) (sym (no-register v b (s .args .a .0) (omega (arith, s .pre .1))))
 
 pub load-spec : {M : Type 1} → statement M
 load-spec =

@@ -10,7 +10,7 @@ load-requires : tie.Need-load-requires
 load-requires c κs = search needs
 
 returns : tie.Need-returns
-returns c = c .load .ensures _
+returns c = c .load .ensures _ _
 
 register-read-requires : tie.Need-register-read-requires
 register-read-requires c κs = search needs
