@@ -1,4 +1,4 @@
 -- What every test of a range is answered by.
 pub mod RangeTests
 pub mod LaneTests
-pub mod BothHalves
+pub mod AllParts

@@ -1,3 +1,3 @@
--- What several words tested at once amount to, and the two halves of the ranges.
+-- What several words tested at once amount to, and the three parts of the ranges.
 pub mod Lanes
-pub mod Halves
+pub mod RangeParts

@@ -1,6 +1,11 @@
-// The ranges of the state, in two tests: the registers and the blitter. Every call makes both first. Each is short enough
-// for the compiler to put it into every call, which both in one function are not. Sixteen latches and an idle engine are
+// The ranges of the state, in three tests: the registers, the blitter, beam and copper. Every call but reset makes all three. Each is
+// short enough for the compiler to put it into every call, which all in one function are not. Sixteen latches and an idle engine are
 // tested four words at once; the others word by word, because a read of four words waits for a store to any of them.
+use xosera::BEAM_LINE;
+use xosera::BEAM_POSITION;
+use xosera::COPP_CTRL;
+use xosera::COPPER_RUNNING;
+use xosera::COPPER_WORD;
 use xosera::COUNTDOWN;
 use xosera::ENGINE_CTRL;
 use xosera::ENGINE_DST_D;
@@ -12,7 +17,10 @@ use xosera::INTERVAL;
 use xosera::KEPT;
 use xosera::LATCHES;
 use xosera::LINE;
+use xosera::LINES;
 use xosera::NIBBLES;
+use xosera::POSITIONS;
+use xosera::PROGRAM;
 use xosera::QUEUED;
 use xosera::RUNNING;
 use xosera::SAVED;
@@ -24,9 +32,9 @@ ghost use mathlib.Core.List.{[], _∷_};
 ghost use Prim.Native.Nat.{_+_, _<_};
 ghost use lib.Dec.{eqb};
 ghost use Rattle.xosera.specs.State.{wordAt, stateAt};
-ghost use Rattle.xosera.specs.Ranges.{timerInRange, areBytes, runningInRange, idleInRange, engineInRange};
+ghost use Rattle.xosera.specs.Ranges.{timerInRange, areBytes, runningInRange, idleInRange, engineInRange, copperInRange};
 ghost use Rattle.ranges.specs.Lanes.{Lanes};
-ghost use Rattle.ranges.specs.Halves.{registersInRange, blitterInRange};
+ghost use Rattle.ranges.specs.RangeParts.{registersInRange, blitterInRange, beamCopperInRange};
 
 // Four words as one number, the first lowest.
 fn packed(a: u16, b: u16, c: u16, d: u16) -> u64
@@ -147,4 +155,32 @@ pub fn blitter_in_range(s: &[u16; STATE_WORDS]) -> bool
         return false;
     }
     engine_in_range(s)
+}
+
+fn copper_in_range(s: &[u16; STATE_WORDS]) -> bool
+    ensures { λ r. ⌜ r ≡ copperInRange (stateAt (now (s .entry)) .video .coppctrl) (stateAt (now (s .entry)) .beam) ⌝ }
+{
+    if s[COPPER_RUNNING] == 1 {
+        if !words::bit(15, s[COPP_CTRL]) {
+            return false;
+        }
+        return s[COPPER_WORD] < PROGRAM;
+    }
+    if s[COPPER_RUNNING] != 0 {
+        return false;
+    }
+    s[COPPER_WORD] == 0
+}
+
+// The beam and the copper.
+pub fn beam_in_range(s: &[u16; STATE_WORDS]) -> bool
+    ensures { λ r. ⌜ r ≡ beamCopperInRange (stateAt (now (s .entry))) ⌝ }
+{
+    if s[BEAM_LINE] >= LINES {
+        return false;
+    }
+    if s[BEAM_POSITION] >= POSITIONS {
+        return false;
+    }
+    copper_in_range(s)
 }

@@ -5,7 +5,7 @@ use Prim.Native.Nat.{ℕ, _<_}
 use borrow.Author.Tests.{ltb-true, not-false}
 use lib.Dec.{ltb}
 use Rattle.xosera.specs.Adapter.{Adapter}
-use Rattle.xosera.specs.Events.{write, read, call, step, run}
+use Rattle.xosera.specs.Events.{write, read, beam, call, step, run}
 use Rattle.xosera.specs.Refusals.{Fit, badRegister, tests, refusal}
 use Rattle.xosera.proofs.RefusalLaws.{accepted-none, lent-fit}
 
@@ -22,6 +22,10 @@ module _ (a : Adapter) where
   pub step-fit : refusal a step ≡ 0 → Fit a
   unfolding tests
   step-fit = lent-fit a step refl
+
+  pub beam-fit : refusal a (call beam) ≡ 0 → Fit a
+  unfolding tests
+  beam-fit = lent-fit a (call beam) refl
 
   pub run-fit : (n : ℕ) → refusal a (run n) ≡ 0 → Fit a
   unfolding tests

@@ -9,7 +9,7 @@ use lib.ListN.{length}
 use Rattle.xosera.specs.State.{State}
 use Rattle.xosera.specs.Memories.{isVramLength, isXrLength}
 use Rattle.xosera.specs.Adapter.{adapter}
-use Rattle.xosera.specs.Events.{Call, write, read, tick, frameEnd, line, call, step, run}
+use Rattle.xosera.specs.Events.{Call, write, read, tick, beam, line, call, step, run}
 use Rattle.xosera.specs.Ranges.{inRange}
 use Rattle.xosera.specs.Refusals.{badVram, badXr, badState, badRegister, blitterFull, reconfigures, Test, _when_, lentTests, tests, first, refusal}
 use Rattle.refusals.specs.Tested.{lengthsRefusal, lentRefusal}
@@ -52,22 +52,24 @@ module _ (n m : ℕ) (s : State) {r : ℕ} where
       go false true e = absurd (omega arith)
       go false false e = refl
 
--- The calls that look at the state alone: timer tick, frame end and line question.
+-- The calls that look at the state alone: timer tick and line question.
 pub data OfState : Call → Type 0 where
   a-tick : OfState tick
-  a-frame-end : OfState frameEnd
   a-line : OfState line
 
 module _ (s : State) (v x : List ℕ) where
   pub state-refusal : {c : Call} → OfState c → refusal (adapter s v x) (call c) ≡ first ((3 when not (inRange s)) ∷ [])
   unfolding refusal tests badState
   state-refusal a-tick = refl
-  state-refusal a-frame-end = refl
   state-refusal a-line = refl
 
   pub step-refusal : refusal (adapter s v x) step ≡ lentRefusal (length v) (length x) s
   unfolding refusal tests badVram badXr badState lentRefusal
   step-refusal = refl
+
+  pub beam-refusal : refusal (adapter s v x) (call beam) ≡ lentRefusal (length v) (length x) s
+  unfolding refusal tests badVram badXr badState lentRefusal
+  beam-refusal = refl
 
   pub run-refusal : (n : ℕ) → refusal (adapter s v x) (run n) ≡ lentRefusal (length v) (length x) s
   unfolding refusal tests badVram badXr badState lentRefusal

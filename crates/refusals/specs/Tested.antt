@@ -1,4 +1,4 @@
--- The tests of both memories and the state, which accesses, blit steps, runs, saves and loads make first.
+-- The tests of both memories and the state, which accesses, blit steps, runs, beam steps, saves and loads make first.
 use mathlib.Core.Bool.{not}
 use mathlib.Core.List.{[], _∷_}
 use Prim.Native.Nat.{ℕ}

@@ -1,5 +1,5 @@
-// The refusals 1 to 6 of every call: the first that applies, in their order. Where a function takes `registers`, its caller has
-// tested the registers already, so that the function is short enough for the compiler to put it into every call.
+// The refusals 1 to 6 of every call: the first that applies, in their order. Where a function takes `registers` and `beam`, its caller
+// has tested these ranges already, so that the function is short enough for the compiler to put it into every call.
 use xosera::QUEUED;
 use xosera::STATE_WORDS;
 use xosera::WR_XADDR;
@@ -14,15 +14,19 @@ ghost use Rattle.xosera.specs.XrSpace.{isBlitRegister};
 ghost use Rattle.xosera.specs.Events.{write, read, call};
 ghost use Rattle.xosera.specs.Ranges.{inRange};
 ghost use Rattle.xosera.specs.Refusals.{blitterFull, reconfigures, _when_, first, refusal};
-ghost use Rattle.ranges.specs.Halves.{registersInRange};
+ghost use Rattle.ranges.specs.RangeParts.{registersInRange, beamCopperInRange};
 ghost use Rattle.refusals.specs.Tested.{lengthsRefusal, lentRefusal};
 
-// Refusal 3, the only one of a timer tick, a frame end and the line question.
-pub fn state_refusal(s: &[u16; STATE_WORDS], registers: bool) -> u8
+// Refusal 3, the only one of a timer tick and the line question.
+pub fn state_refusal(s: &[u16; STATE_WORDS], registers: bool, beam: bool) -> u8
     requires { ⌜ registers ≡ registersInRange (stateAt (now s)) ⌝ }
+    requires { ⌜ beam ≡ beamCopperInRange (stateAt (now s)) ⌝ }
     ensures { λ r. ⌜ r ≡ first ((3 when not (inRange (stateAt (now (s .entry))))) ∷ []) ⌝ }
 {
     if !registers {
+        return 3;
+    }
+    if !beam {
         return 3;
     }
     if ranges::blitter_in_range(s) { 0 } else { 3 }
@@ -41,24 +45,39 @@ fn lengths_refusal(vram: usize, xr: usize) -> u8
     0
 }
 
-// Refusals 1 to 3, those of a blit step and a run and the first of a byte read, a save and a load.
-pub fn lent_refusal(s: &[u16; STATE_WORDS], registers: bool, vram: usize, xr: usize) -> u8
+// Refusals 1 to 3, those of a blit step, a run and a beam step, and the first of a byte read, a save and a load.
+pub fn lent_refusal(
+    s: &[u16; STATE_WORDS],
+    registers: bool,
+    beam: bool,
+    vram: usize,
+    xr: usize,
+) -> u8
     requires { ⌜ registers ≡ registersInRange (stateAt (now s)) ⌝ }
+    requires { ⌜ beam ≡ beamCopperInRange (stateAt (now s)) ⌝ }
     ensures { λ r. ⌜ r ≡ lentRefusal vram xr (stateAt (now (s .entry))) ⌝ }
 {
     let lengths = lengths_refusal(vram, xr);
     if lengths != 0 {
         return lengths;
     }
-    state_refusal(s, registers)
+    state_refusal(s, registers, beam)
 }
 
 // Refusals 1 to 4, those of a byte read.
-pub fn read_refusal(s: &[u16; STATE_WORDS], registers: bool, vram: usize, xr: usize, reg: u8) -> u8
+pub fn read_refusal(
+    s: &[u16; STATE_WORDS],
+    registers: bool,
+    beam: bool,
+    vram: usize,
+    xr: usize,
+    reg: u8,
+) -> u8
     requires { ⌜ registers ≡ registersInRange (stateAt (now s)) ⌝ }
+    requires { ⌜ beam ≡ beamCopperInRange (stateAt (now s)) ⌝ }
     ensures { λ r. ⌜ ((v x : List ℕ) (odd : Bool) → length v ≡ vram → length x ≡ xr → r ≡ refusal (adapterAt (now (s .entry)) v x) (call (read reg odd))) ⌝ }
 {
-    let lent = lent_refusal(s, registers, vram, xr);
+    let lent = lent_refusal(s, registers, beam, vram, xr);
     if lent != 0 {
         return lent;
     }
@@ -99,8 +118,17 @@ fn odd_refusal(s: &[u16; STATE_WORDS], reg: u8, byte: u8) -> u8
     0
 }
 
-// Refusals 1 to 6, those of a byte write. It tests the registers itself, between the lengths and the blitter: here that is
-// faster.
+// Refusal 3 with all ranges tested here.
+fn whole_refusal(s: &[u16; STATE_WORDS]) -> u8
+    ensures { λ r. ⌜ r ≡ first ((3 when not (inRange (stateAt (now (s .entry))))) ∷ []) ⌝ }
+{
+    if !ranges::beam_in_range(s) {
+        return 3;
+    }
+    state_refusal(s, ranges::registers_in_range(s), true)
+}
+
+// Refusals 1 to 6, those of a byte write. It tests all ranges itself, behind the lengths: here that is faster.
 pub fn write_refusal(
     s: &[u16; STATE_WORDS],
     vram: usize,
@@ -115,7 +143,7 @@ pub fn write_refusal(
     if lengths != 0 {
         return lengths;
     }
-    let state = state_refusal(s, ranges::registers_in_range(s));
+    let state = whole_refusal(s);
     if state != 0 {
         return state;
     }

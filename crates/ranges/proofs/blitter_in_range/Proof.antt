@@ -1,7 +1,7 @@
 -- The queue, then the engine.
 use borrow.Author.Tests.{lt-leb, le-leb}
 use Rattle.xosera.specs.State.{stateAt}
-use Rattle.ranges.specs.Halves.{blitterInRange}
+use Rattle.ranges.specs.RangeParts.{blitterInRange}
 use borrow.Author.Needs.{needs}
 use Rattle.ranges.proofs.blitter_in_range.Statement.{statement}
 use Rattle.ranges.proofs.blitter_in_range.Tie as tie

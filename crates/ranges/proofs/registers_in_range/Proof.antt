@@ -5,7 +5,7 @@ use borrow.Author.Tests.{not-true, not-false, lt-leb, le-leb}
 use lib.Dec.{leb}
 use Rattle.xosera.specs.State.{Host, stateAt}
 use Rattle.xosera.specs.Ranges.{timerInRange, hostInRange}
-use Rattle.ranges.specs.Halves.{registersInRange}
+use Rattle.ranges.specs.RangeParts.{registersInRange}
 use borrow.Author.Needs.{needs}
 use Rattle.ranges.proofs.registers_in_range.Statement.{statement}
 use Rattle.ranges.proofs.registers_in_range.Tie as tie

@@ -21,22 +21,19 @@ returns c =
     let lent = lengths-first (r .vram) (r .xr) s (at-lengths-refusal .lengths-refusal .ensures) (c .if1 .taken) in
     λ v x p q. write-first s v x p q lent (r .reg) (r .odd) (r .byte) (c .if1 .taken)
 
-registers-in-range-requires : tie.Need-registers-in-range-requires
-registers-in-range-requires c κs = search needs
-
-state-refusal-requires : tie.Need-state-refusal-requires
-state-refusal-requires c κs = search needs
+whole-refusal-requires : tie.Need-whole-refusal-requires
+whole-refusal-requires c κs = search needs
 
 -- Once the state is tested: the call's start, and refusals 1 to 3.
-abbrev began : tie.After-state-refusal → tie.Start
-began c = c .before .before .before .before
+abbrev began : tie.After-whole-refusal → tie.Start
+began c = c .before .before .before
 
-lent : (c : tie.After-state-refusal) →
-    let r = began c .args in c .state-refusal .result ≡ lentRefusal (r .vram) (r .xr) (stateAt (r .s .now))
+lent : (c : tie.After-whole-refusal) →
+    let r = began c .args in c .whole-refusal .result ≡ lentRefusal (r .vram) (r .xr) (stateAt (r .s .now))
 lent c =
-    let at-if1 = c .before .before in
+    let at-if1 = c .before in
     let r = began c .args in
-    c .state-refusal .ensures ∙ lengths-passed (r .vram) (r .xr) (stateAt (r .s .now)) (at-if1 .before .lengths-refusal .ensures) (at-if1 .if1 .left)
+    c .whole-refusal .ensures ∙ lengths-passed (r .vram) (r .xr) (stateAt (r .s .now)) (at-if1 .before .lengths-refusal .ensures) (at-if1 .if1 .left)
 
 returns-2 : tie.Need-returns-2
 returns-2 c =
@@ -86,8 +83,7 @@ write-refusal-spec =
     (tie.spec
     lengths-refusal-requires
     returns
-    registers-in-range-requires
-    state-refusal-requires
+    whole-refusal-requires
     returns-2
     returns-3
     returns-4
