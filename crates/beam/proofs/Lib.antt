@@ -1,0 +1,2 @@
+-- Laws of positions that belong to no one function.
+pub mod Places

@@ -1,0 +1,2 @@
+-- The beam's part of a beam step.
+pub mod Arrival
