@@ -1,6 +1,5 @@
-// Host accesses, frame ends and the interrupt line on the words of the state and the lent memories. The caller has tested
+// Host accesses and the interrupt line on the words of the state and the lent memories. The caller has tested
 // lengths, ranges and refusals.
-use xosera::FRAME_ENDED;
 use xosera::INT_MASK;
 use xosera::NIBBLES;
 use xosera::RD_INCR;
@@ -12,14 +11,12 @@ use xosera::WR_XADDR;
 use xosera::XrAddr;
 ghost use mathlib.Core.Path.{_≡_};
 ghost use mathlib.Core.Bool.{true};
-ghost use mathlib.Core.List.{List};
-ghost use Prim.Native.Nat.{ℕ, _<_, _≤_};
+ghost use Prim.Native.Nat.{_<_, _≤_};
 ghost use lib.ListN.{length, getD};
 ghost use Rattle.xosera.specs.State.{stateWords, stateAt};
 ghost use Rattle.xosera.specs.Memories.{isVramLength};
 ghost use Rattle.xosera.specs.Adapter.{Side, adapterAt};
 ghost use Rattle.xosera.specs.HostBytes.{writeWord, writeByte, readByte};
-ghost use Rattle.xosera.specs.TimerTick as TimerTick;
 ghost use Rattle.xosera.specs.Plan.{Performs};
 ghost use Rattle.xosera.specs.Calls.{lineUp};
 
@@ -95,14 +92,6 @@ pub fn read(s: &mut [u16], vram: &[u16], xr: &[u16], reg: u8, odd: bool)
         11 => vram_port::read(s, vram),
         _ => {}
     }
-}
-
-// A frame end sets status bit 4.
-pub fn frame_end(s: &mut [u16])
-    requires { ⌜ length (now s) ≡ stateWords ⌝ }
-    ensures { λ _. ⌜ ((v x : List ℕ) → Performs TimerTick.frameEnd (now (s .entry)) v x (now (s .exit)) v x) ⌝ }
-{
-    s[STATUS] = s[STATUS] | FRAME_ENDED;
 }
 
 // The interrupt line is up when some bit is set in both mask and status.

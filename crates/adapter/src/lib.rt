@@ -13,7 +13,7 @@ ghost use mathlib.Core.List.{List};
 ghost use Prim.Native.Nat.{ℕ};
 ghost use Rattle.xosera.specs.State.{stateAt};
 ghost use Rattle.xosera.specs.Adapter.{adapterAt};
-ghost use Rattle.xosera.specs.Events.{write, read, tick, frameEnd, line, call, step, run, Untouched, ofWrite, ofRead, ofBlit, ofState, ofLine};
+ghost use Rattle.xosera.specs.Events.{write, read, tick, beam, line, call, step, run, Untouched, ofWrite, ofRead, ofBlit, ofState, ofLine};
 ghost use Rattle.xosera.specs.Ranges.{resetState};
 ghost use Rattle.adapter.specs.Promises.{Does};
 
@@ -63,8 +63,9 @@ pub fn read_byte(
         ⌝ }
     ensures refused { λ r. ⌜ Untouched (ofRead r) (now (s .entry)) (now (s .exit)) ⌝ }
 {
+    let beam = ranges::beam_in_range(s);
     let registers = ranges::registers_in_range(s);
-    let refusal = refusals::read_refusal(s, registers, vram.len(), xr.len(), reg);
+    let refusal = refusals::read_refusal(s, registers, beam, vram.len(), xr.len(), reg);
     if refusal != 0 {
         return ReadAnswer { refusal, byte: 0 };
     }
@@ -82,7 +83,8 @@ pub fn blit_step(s: &mut [u16; STATE_WORDS], vram: &mut [u16], xr: &[u16]) -> Bl
     ensures refused { λ r. ⌜ Untouched (ofBlit r) (now (s .entry)) (now (s .exit)) ⌝ }
 {
     let registers = ranges::registers_in_range(s);
-    let refusal = refusals::lent_refusal(s, registers, vram.len(), xr.len());
+    let beam = ranges::beam_in_range(s);
+    let refusal = refusals::lent_refusal(s, registers, beam, vram.len(), xr.len());
     if refusal != 0 {
         return BlitAnswer {
             refusal,
@@ -108,7 +110,8 @@ pub fn blit_run(s: &mut [u16; STATE_WORDS], vram: &mut [u16], xr: &[u16], n: u64
     ensures refused { λ r. ⌜ Untouched (ofBlit r) (now (s .entry)) (now (s .exit)) ⌝ }
 {
     let registers = ranges::registers_in_range(s);
-    let refusal = refusals::lent_refusal(s, registers, vram.len(), xr.len());
+    let beam = ranges::beam_in_range(s);
+    let refusal = refusals::lent_refusal(s, registers, beam, vram.len(), xr.len());
     if refusal != 0 {
         return BlitAnswer {
             refusal,
@@ -131,7 +134,8 @@ pub fn timer_tick(s: &mut [u16; STATE_WORDS]) -> StateAnswer
     ensures refused { λ r. ⌜ Untouched (ofState r) (now (s .entry)) (now (s .exit)) ⌝ }
 {
     let registers = ranges::registers_in_range(s);
-    let refusal = refusals::state_refusal(s, registers);
+    let beam = ranges::beam_in_range(s);
+    let refusal = refusals::state_refusal(s, registers, beam);
     if refusal != 0 {
         return StateAnswer { refusal };
     }
@@ -139,17 +143,21 @@ pub fn timer_tick(s: &mut [u16; STATE_WORDS]) -> StateAnswer
     StateAnswer { refusal: 0 }
 }
 
-// A frame end.
-pub fn frame_end(s: &mut [u16; STATE_WORDS]) -> StateAnswer
-    ensures done { λ r. ⌜ ((v x : List ℕ) → Does (adapterAt (now (s .entry)) v x) (call frameEnd) (ofState r) (adapterAt (now (s .exit)) v x)) ⌝ }
+// One beam step: one native pixel, and an instruction of a running copper.
+pub fn beam_step(s: &mut [u16; STATE_WORDS], vram: &[u16], xr: &mut [u16]) -> StateAnswer
+    ensures done { λ r. ⌜
+        Does (adapterAt (now (s .entry)) (now (vram .entry)) (now (xr .entry))) (call beam) (ofState r)
+        (adapterAt (now (s .exit)) (now (vram .entry)) (now (xr .exit)))
+        ⌝ }
     ensures refused { λ r. ⌜ Untouched (ofState r) (now (s .entry)) (now (s .exit)) ⌝ }
 {
     let registers = ranges::registers_in_range(s);
-    let refusal = refusals::state_refusal(s, registers);
+    let beam = ranges::beam_in_range(s);
+    let refusal = refusals::lent_refusal(s, registers, beam, vram.len(), xr.len());
     if refusal != 0 {
         return StateAnswer { refusal };
     }
-    access::frame_end(s);
+    copper::beam_step(s, xr);
     StateAnswer { refusal: 0 }
 }
 
@@ -158,7 +166,8 @@ pub fn interrupt_line(s: &[u16; STATE_WORDS]) -> LineAnswer
     ensures { λ r. ⌜ ((v x : List ℕ) → Does (adapterAt (now (s .entry)) v x) (call line) (ofLine r) (adapterAt (now (s .entry)) v x)) ⌝ }
 {
     let registers = ranges::registers_in_range(s);
-    let refusal = refusals::state_refusal(s, registers);
+    let beam = ranges::beam_in_range(s);
+    let refusal = refusals::state_refusal(s, registers, beam);
     if refusal != 0 {
         return LineAnswer { refusal, up: false };
     }

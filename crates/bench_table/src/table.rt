@@ -126,7 +126,8 @@ pub fn queues(mut t: Table) -> Table {
     b = b.run(9);
     b = b.tell();
     t = t.row(0x1_1, b);
-    // 3 words running, 2 queued, run 4: count, busy, full, bit 6.
+    // 3 words running, 2 queued, run 4: count, busy, full, bit 6. After reset the high byte of XM_SYS_CTRL has bit 3 too, the beam in
+    // left blanking.
     b = fresh();
     b = b.xr(WORDS, 2);
     b = b.xr(WORDS, 1);
@@ -135,7 +136,7 @@ pub fn queues(mut t: Table) -> Table {
     b = b.read(SYS_CTRL, false);
     b = b.read(SYS_CTRL, false);
     b = b.read(INT_CTRL, true);
-    t = t.row(0x1_4_20_20_40, b);
+    t = t.row(0x1_4_28_28_40, b);
     // Queued, then write ANDC.
     b = fresh();
     b = b.xr(WORDS, 0);

@@ -13,7 +13,7 @@ ghost use mathlib.Core.List.{List};
 ghost use Prim.Native.Nat.{ℕ};
 ghost use Rattle.xosera.specs.State.{stateAt};
 ghost use Rattle.xosera.specs.Adapter.{adapterAt};
-ghost use Rattle.xosera.specs.Events.{write, read, tick, frameEnd, line, call, step, run, Untouched, ofWrite, ofRead, ofBlit, ofState, ofLine};
+ghost use Rattle.xosera.specs.Events.{write, read, tick, beam, line, call, step, run, Untouched, ofWrite, ofRead, ofBlit, ofState, ofLine};
 ghost use Rattle.xosera.specs.Ranges.{resetState};
 ghost use Rattle.adapter.specs.Promises.{Does};
 ghost use Rattle.saved_file.specs.SaveLoad.{ofSave, ofLoad, Saves, Loads};
@@ -100,11 +100,18 @@ pub extern "C" fn xosera_timer_tick(s: &mut [u16; STATE_WORDS]) -> StateAnswer
 }
 
 #[no_mangle]
-pub extern "C" fn xosera_frame_end(s: &mut [u16; STATE_WORDS]) -> StateAnswer
-    ensures done { λ r. ⌜ ((v x : List ℕ) → Does (adapterAt (now (s .entry)) v x) (call frameEnd) (ofState r) (adapterAt (now (s .exit)) v x)) ⌝ }
+pub extern "C" fn xosera_beam_step(
+    s: &mut [u16; STATE_WORDS],
+    vram: &[u16],
+    xr: &mut [u16],
+) -> StateAnswer
+    ensures done { λ r. ⌜
+        Does (adapterAt (now (s .entry)) (now (vram .entry)) (now (xr .entry))) (call beam) (ofState r)
+        (adapterAt (now (s .exit)) (now (vram .entry)) (now (xr .exit)))
+        ⌝ }
     ensures refused { λ r. ⌜ Untouched (ofState r) (now (s .entry)) (now (s .exit)) ⌝ }
 {
-    adapter::frame_end(s)
+    adapter::beam_step(s, vram, xr)
 }
 
 #[no_mangle]

@@ -7,7 +7,7 @@ use Prim.Native.Nat.{ℕ, _/_, _%_}
 use lib.ListN.{getD}
 use Rattle.sequence.specs.declared.Outcome.{Outcome}
 use Rattle.xosera.specs.Adapter.{Adapter}
-use Rattle.xosera.specs.Events.{Event, Answer, write, read, tick, frameEnd, line, call, step, run}
+use Rattle.xosera.specs.Events.{Event, Answer, write, read, tick, beam, line, call, step, run}
 use Rattle.xosera.specs.Sequences.{afterAll, allAnswers}
 use Rattle.order.specs.Order.{agreed, inAgreed}
 
@@ -15,13 +15,13 @@ use Rattle.order.specs.Order.{agreed, inAgreed}
 abbrev pub ofOutcome : Outcome → Answer
 ofOutcome r = record { refusal = r .refusal; value = r .value; mask = r .mask }
 
--- 0 and 1 write a byte, even and odd; 2 and 3 read one; 4 a timer tick; 5 a frame end; 6 the line question; 7 a blit step;
+-- 0 and 1 write a byte, even and odd; 2 and 3 read one; 4 a timer tick; 5 a beam step; 6 the line question; 7 a blit step;
 -- from 8 on a run. An access's argument is register + 256 x byte, a run's is n.
 abbrev pub kinds : ℕ → List Event
 kinds n =
     call (write (n % 256) false (n / 256 % 256)) ∷ call (write (n % 256) true (n / 256 % 256))
     ∷ call (read (n % 256) false) ∷ call (read (n % 256) true)
-    ∷ call tick ∷ call frameEnd ∷ call line ∷ step ∷ []
+    ∷ call tick ∷ call beam ∷ call line ∷ step ∷ []
 
 unfoldable pub eventOf : ℕ → ℕ → Event
 eventOf kind n = getD (kinds n) kind (run n)

@@ -5,7 +5,7 @@ ghost use mathlib.Core.List.{List};
 ghost use Prim.Native.Nat.{ℕ, _/_, _%_};
 ghost use lib.ListN.{length};
 ghost use Rattle.xosera.specs.Adapter.{adapterAt};
-ghost use Rattle.xosera.specs.Events.{write, read, tick, frameEnd, line, call, step, run};
+ghost use Rattle.xosera.specs.Events.{write, read, tick, beam, line, call, step, run};
 ghost use Rattle.adapter.specs.Promises.{Does};
 ghost use Rattle.sequence.specs.Played.{ofOutcome, eventOf, eventsOf, answersOf, Played};
 
@@ -89,10 +89,13 @@ fn tick(s: &mut [u16; STATE_WORDS]) -> Outcome
     }
 }
 
-fn frame_end(s: &mut [u16; STATE_WORDS]) -> Outcome
-    ensures { λ r. ⌜ ((v x : List ℕ) → Does (adapterAt (now (s .entry)) v x) (call frameEnd) (ofOutcome r) (adapterAt (now (s .exit)) v x)) ⌝ }
+fn beam(s: &mut [u16; STATE_WORDS], vram: &[u16], xr: &mut [u16]) -> Outcome
+    ensures { λ r. ⌜
+        Does (adapterAt (now (s .entry)) (now (vram .entry)) (now (xr .entry))) (call beam) (ofOutcome r)
+        (adapterAt (now (s .exit)) (now (vram .entry)) (now (xr .exit)))
+        ⌝ }
 {
-    let a = adapter::frame_end(s);
+    let a = adapter::beam_step(s, vram, xr);
     Outcome {
         refusal: a.refusal,
         mask: 0,
@@ -147,7 +150,7 @@ pub fn apply(
         2 => read(s, vram, xr, false, arg),
         3 => read(s, vram, xr, true, arg),
         4 => tick(s),
-        5 => frame_end(s),
+        5 => beam(s, vram, xr),
         6 => line(s),
         7 => step(s, vram, xr),
         _ => run(s, vram, xr, arg),

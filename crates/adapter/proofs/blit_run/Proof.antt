@@ -18,12 +18,15 @@ use Rattle.adapter.proofs.blit_run.Tie as tie
 registers-in-range-requires : tie.Need-registers-in-range-requires
 registers-in-range-requires c κs = search needs
 
+beam-in-range-requires : tie.Need-beam-in-range-requires
+beam-in-range-requires c κs = search needs
+
 lent-refusal-requires : tie.Need-lent-refusal-requires
 lent-refusal-requires c κs = search needs
 
 -- The adapter at the call, and whether it is refused.
 abbrev began : tie.After-lent-refusal → tie.Start
-began c = c .before .before .before .before .before .before
+began c = c .before .before .before .before .before .before .before .before
 
 abbrev here : tie.After-lent-refusal → Adapter
 here c = let a = began c .args in adapterAt (a .s .now) (a .vram .now) (a .xr .now)
@@ -67,4 +70,4 @@ returns-2 c =
 
 pub blit-run-spec : {M : Type 1} → statement M
 blit-run-spec =
-    tie.close (tie.spec registers-in-range-requires lent-refusal-requires returns run-requires low-byte-requires same-length returns-2)
+    tie.close (tie.spec registers-in-range-requires beam-in-range-requires lent-refusal-requires returns run-requires low-byte-requires same-length returns-2)

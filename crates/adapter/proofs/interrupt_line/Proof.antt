@@ -20,15 +20,18 @@ use Rattle.adapter.proofs.interrupt_line.Tie as tie
 registers-in-range-requires : tie.Need-registers-in-range-requires
 registers-in-range-requires c κs = search needs
 
+beam-in-range-requires : tie.Need-beam-in-range-requires
+beam-in-range-requires c κs = search needs
+
 state-refusal-requires : tie.Need-state-refusal-requires
 state-refusal-requires c κs = search needs
 
 -- The words at the call, with any memories, and whether they are refused.
 abbrev here : tie.After-state-refusal → List ℕ → List ℕ → Adapter
-here c = adapterAt (c .before .before .args .s .now)
+here c = adapterAt (c .before .before .before .args .s .now)
 
 tested : (c : tie.After-state-refusal) (v x : List ℕ) → c .state-refusal .result ≡ refusal (here c v x) (call line)
-tested c v x = c .state-refusal .ensures ∙ sym (state-refusal (stateAt (c .before .before .args .s .now)) v x a-line)
+tested c v x = c .state-refusal .ensures ∙ sym (state-refusal (stateAt (c .before .before .before .args .s .now)) v x a-line)
 
 returns : tie.Need-returns
 returns c = λ v x. refused (here (c .before) v x) (call line) _ (tested (c .before) v x) (c .if1 .taken)
@@ -46,4 +49,4 @@ returns-2 c =
 
 pub interrupt-line-spec : {M : Type 1} → statement M
 interrupt-line-spec =
-    tie.close (tie.spec registers-in-range-requires state-refusal-requires returns line-up-requires returns-2)
+    tie.close (tie.spec registers-in-range-requires beam-in-range-requires state-refusal-requires returns line-up-requires returns-2)

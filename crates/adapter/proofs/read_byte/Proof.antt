@@ -11,6 +11,9 @@ use borrow.Author.Needs.{needs}
 use Rattle.adapter.proofs.read_byte.Statement.{statement}
 use Rattle.adapter.proofs.read_byte.Tie as tie
 
+beam-in-range-requires : tie.Need-beam-in-range-requires
+beam-in-range-requires c κs = search needs
+
 registers-in-range-requires : tie.Need-registers-in-range-requires
 registers-in-range-requires c κs = search needs
 
@@ -19,7 +22,7 @@ read-refusal-requires c κs = search needs
 
 -- The adapter at the call, the event, and whether it is refused.
 abbrev began : tie.After-read-refusal → tie.Start
-began c = c .before .before .before .before .before .before
+began c = c .before .before .before .before .before .before .before .before
 
 abbrev here : tie.After-read-refusal → Adapter
 here c = let a = began c .args in adapterAt (a .s .now) (a .vram .now) (a .xr .now)
@@ -61,4 +64,4 @@ returns-2 c =
 
 pub read-byte-spec : {M : Type 1} → statement M
 read-byte-spec =
-    tie.close (tie.spec registers-in-range-requires read-refusal-requires returns byte-read-requires read-requires returns-2)
+    tie.close (tie.spec beam-in-range-requires registers-in-range-requires read-refusal-requires returns byte-read-requires read-requires returns-2)

@@ -23,8 +23,8 @@ read-requires-2 c κs = search needs
 tick-requires : tie.Need-tick-requires
 tick-requires c κs = search needs
 
-frame-end-requires : tie.Need-frame-end-requires
-frame-end-requires c κs = search needs
+beam-requires : tie.Need-beam-requires
+beam-requires c κs = search needs
 
 line-requires : tie.Need-line-requires
 line-requires c κs = search needs
@@ -92,12 +92,18 @@ returns-5 c =
     let start = at-match .before .before .before in
     rw (at-match .match .keys5) (c .tick .ensures (start .args .vram .now) (start .args .xr .now))
 
+same-length-9 : tie.Need-same-length-9
+same-length-9 c = search needs
+
+same-length-10 : tie.Need-same-length-10
+same-length-10 c = search needs
+
 returns-6 : tie.Need-returns-6
 unfolding eventOf
 returns-6 c =
-    let at-match = c .before .before in
-    let start = at-match .before .before .before in
-    rw (at-match .match .keys6) (c .frame-end .ensures (start .args .vram .now) (start .args .xr .now))
+    let at-beam = c .before .before in
+    let at-match = at-beam .before .before .before .before in
+    rw (at-match .match .keys6) (at-beam .beam .ensures)
 
 returns-7 : tie.Need-returns-7
 unfolding eventOf
@@ -106,11 +112,11 @@ returns-7 c =
     let start = at-match .before .before .before in
     rw (at-match .match .keys7) (c .line .ensures (start .args .vram .now) (start .args .xr .now))
 
-same-length-9 : tie.Need-same-length-9
-same-length-9 c = search needs
+same-length-11 : tie.Need-same-length-11
+same-length-11 c = search needs
 
-same-length-10 : tie.Need-same-length-10
-same-length-10 c = search needs
+same-length-12 : tie.Need-same-length-12
+same-length-12 c = search needs
 
 returns-8 : tie.Need-returns-8
 unfolding eventOf
@@ -119,11 +125,11 @@ returns-8 c =
     let at-match = at-step .before .before .before .before in
     rw (at-match .match .keys8) (at-step .step .ensures)
 
-same-length-11 : tie.Need-same-length-11
-same-length-11 c = search needs
+same-length-13 : tie.Need-same-length-13
+same-length-13 c = search needs
 
-same-length-12 : tie.Need-same-length-12
-same-length-12 c = search needs
+same-length-14 : tie.Need-same-length-14
+same-length-14 c = search needs
 
 returns-9 : tie.Need-returns-9
 returns-9 c =
@@ -145,7 +151,7 @@ apply-spec =
     read-requires
     read-requires-2
     tick-requires
-    frame-end-requires
+    beam-requires
     line-requires
     step-requires
     run-requires
@@ -162,11 +168,13 @@ apply-spec =
     same-length-8
     returns-4
     returns-5
-    returns-6
-    returns-7
     same-length-9
     same-length-10
-    returns-8
+    returns-6
+    returns-7
     same-length-11
     same-length-12
+    returns-8
+    same-length-13
+    same-length-14
     returns-9)
