@@ -13,6 +13,9 @@ pub const XR_START: usize = 178;
 
 pub const VRAM_START: usize = 13490;
 
+// The words of a state that a file has: those before beam and copper.
+pub const FORM_1_WORDS: usize = 75;
+
 // A word at a place, high byte first.
 fn put_word(part: &mut [u8], at: usize, w: u16)
     requires { ⌜ at + 1 < length (now part) ⌝ }

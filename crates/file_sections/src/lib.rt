@@ -1,7 +1,12 @@
 // The sections of a saved adapter: written to a room, tested, and taken over from a file.
+use file_bytes::FORM_1_WORDS;
 use file_bytes::STATE_START;
 use file_bytes::VRAM_START;
 use file_bytes::XR_START;
+use xosera::BEAM_LINE;
+use xosera::BEAM_POSITION;
+use xosera::COPPER_RUNNING;
+use xosera::COPPER_WORD;
 use xosera::STATE_WORDS;
 ghost use mathlib.Core.Path.{_≡_};
 ghost use mathlib.Core.List.{_++_};
@@ -10,7 +15,7 @@ ghost use lib.ListN.{length, drop};
 ghost use Rattle.xosera.specs.State.{stateWords, stateAt};
 ghost use Rattle.xosera.specs.Adapter.{adapterAt};
 ghost use Rattle.xosera.specs.Ranges.{inRange};
-ghost use Rattle.saved_file.specs.SavedFile.{saved, wordsOf, held, isSaved};
+ghost use Rattle.saved_file.specs.SavedFile.{saved, heldWords, held, isSaved};
 
 // The file of an adapter, from a room's first byte on.
 pub fn put_file(s: &[u16], vram: &[u16], xr: &[u16], room: &mut [u8])
@@ -26,18 +31,31 @@ pub fn put_file(s: &[u16], vram: &[u16], xr: &[u16], room: &mut [u8])
     let vram_bytes = 2 * vram.len();
     let end = VRAM_START + vram_bytes;
     file_bytes::put_contents(&mut room[0..STATE_START], vram_bytes as u32);
-    file_bytes::put_words(&mut room[STATE_START..XR_START], s);
+    file_bytes::put_words(&mut room[STATE_START..XR_START], &s[0..FORM_1_WORDS]);
     file_bytes::put_words(&mut room[XR_START..VRAM_START], xr);
     file_bytes::put_words(&mut room[VRAM_START..end], vram);
 }
 
-// Whether the state of a file is within its ranges.
+// The words of a state by its section in a file, beam and copper at rest.
+fn get_state(part: &[u8], s: &mut [u16])
+    requires { ⌜ length (now part) ≡ 150 ⌝ }
+    requires { ⌜ length (now s) ≡ stateWords ⌝ }
+    ensures { λ _. ⌜ now (s .exit) ≡ heldWords (now (part .entry)) ⌝ }
+{
+    file_bytes::get_words(part, &mut s[0..FORM_1_WORDS]);
+    s[BEAM_LINE] = 0;
+    s[BEAM_POSITION] = 0;
+    s[COPPER_RUNNING] = 0;
+    s[COPPER_WORD] = 0;
+}
+
+// Whether the state of a file is within its ranges. Beam and copper at rest are.
 fn is_state(part: &[u8]) -> bool
     requires { ⌜ length (now part) ≡ 150 ⌝ }
-    ensures { λ r. ⌜ r ≡ inRange (stateAt (wordsOf (now (part .entry)))) ⌝ }
+    ensures { λ r. ⌜ r ≡ inRange (stateAt (heldWords (now (part .entry)))) ⌝ }
 {
     let mut words = [0u16; STATE_WORDS];
-    file_bytes::get_words(part, &mut words);
+    get_state(part, &mut words);
     if !ranges::registers_in_range(&words) {
         return false;
     }
@@ -74,7 +92,7 @@ pub fn take_file(s: &mut [u16], vram: &mut [u16], xr: &mut [u16], file: &[u8])
     ensures { λ _. ⌜ adapterAt (now (s .exit)) (now (vram .exit)) (now (xr .exit)) ≡ held (now (file .entry)) ⌝ }
 {
     let end = file.len();
-    file_bytes::get_words(&file[STATE_START..XR_START], s);
+    get_state(&file[STATE_START..XR_START], s);
     file_bytes::get_words(&file[XR_START..VRAM_START], xr);
     file_bytes::get_words(&file[VRAM_START..end], vram);
 }

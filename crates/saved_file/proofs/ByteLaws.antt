@@ -1,6 +1,6 @@
 -- Words as bytes and back: lengths, each byte and each word by its place, and that both ways undo each other.
 use mathlib.Core.Path.{_≡_, refl, sym, ap, ap₂, _∙_}
-use mathlib.Core.List.{List, [], _∷_}
+use mathlib.Core.List.{List, [], _∷_, _++_}
 use Prim.Native.Nat.{ℕ, zero, suc, _+_, _*_, _/_, _%_, _<_}
 use native.Mathlib.Omega.{arith}
 use lib.ListN.{length, take, drop, getD}
@@ -63,7 +63,7 @@ bytes-of-words (x ∷ y ∷ bs) zero h b = absurd (omega arith)
 bytes-of-words (x ∷ y ∷ bs) (suc n) h b =
     ap₂ _∷_ (omega (arith, b 1)) (ap₂ _∷_ (omega (arith, b 1)) (bytes-of-words bs n (omega arith) (λ i. b (suc (suc i)))))
 
--- Parts of bytes are bytes, and bytes make words of 16 bits.
+-- Parts of bytes and bytes one after another are bytes, and bytes make words of 16 bits.
 pub drop-below : (n k : ℕ) (l : List ℕ) → AllBelow n l → AllBelow n (drop k l)
 drop-below n k l b i = rw (getD-drop k l i 0) (b (k + i))
 
@@ -72,6 +72,11 @@ take-below n zero l p b i = p
 take-below n (suc k) [] p b i = p
 take-below n (suc k) (x ∷ l) p b zero = b 0
 take-below n (suc k) (x ∷ l) p b (suc i) = take-below n k l p (λ j. b (suc j)) i
+
+pub append-below : (n : ℕ) (l m : List ℕ) → AllBelow n l → AllBelow n m → AllBelow n (l ++ m)
+append-below n [] m b c i = c i
+append-below n (x ∷ l) m b c zero = b 0
+append-below n (x ∷ l) m b c (suc i) = append-below n l m (λ j. b (suc j)) c i
 
 pub words-16 : (bs : List ℕ) → AllBelow 256 bs → AllBelow 65536 (wordsOf bs)
 unfolding wordsOf

@@ -1,11 +1,12 @@
--- What request 1 says beyond the single call: `SavedAdapters` of the definitions, `SavesAndLoads` of the calls. They are proved in
--- crates/saved_file/proofs/SavedAdapters.antt and crates/saving/proofs/SavesAndLoads.antt.
+-- What requests 1 and 3 say of saved adapters beyond the single call: `SavedAdapters` of the definitions, `SavesAndLoads` of the
+-- calls. They are proved in crates/saved_file/proofs/SavedAdapters.antt and crates/saving/proofs/SavesAndLoads.antt.
 use mathlib.Core.Path.{_≡_}
 use mathlib.Core.List.{List, [], _∷_}
 use Prim.Native.Nat.{ℕ, _≤_, _<_}
 use lib.ListN.{length, take, drop, getD}
 use Rattle.xosera.specs.State.{stateWords}
 use Rattle.xosera.specs.Adapter.{Adapter, adapterAt}
+use Rattle.xosera.specs.Beam.{rest}
 use Rattle.xosera.specs.Events.{Answer}
 use Rattle.xosera.specs.Refusals.{Fit}
 use Rattle.saved_file.specs.SavedFile.{contents, saved}
@@ -24,13 +25,18 @@ pub record Words : Type 0 where
 abbrev pub adapterOf : Words → Adapter
 adapterOf w = adapterAt (w .state) (w .vram) (w .xr)
 
--- Words that an adapter can have: 16 bits each, as many as a state has, and none of 1 to 3 applies.
+-- Beam and copper at rest (request 3).
+abbrev pub Resting : Adapter → Type 0
+Resting a = a .side .beam ≡ rest
+
+-- Words that an adapter with a file can have: 16 bits each, as many as a state has, none of 1 to 3 applies, and at rest.
 pub record Legal (w : Words) : Type 0 where
   pub size : length (w .state) ≡ stateWords
   pub state : AllBelow 65536 (w .state)
   pub vram : AllBelow 65536 (w .vram)
   pub xr : AllBelow 65536 (w .xr)
   pub fit : Fit (adapterOf w)
+  pub rests : Resting (adapterOf w)
 
 -- No adapter saves this file.
 abbrev pub NoAdapters : List ℕ → Type 0
@@ -49,10 +55,14 @@ pub record SavedAdapters : Type 0 where
   pub accepted-file : (a : Adapter) (file : List ℕ) → loadRefusal a file ≡ 0 → saved (loaded a file) ≡ file
   -- "Any other file is refused": with 8, where none of 1 to 3 applies.
   pub other-file : (a : Adapter) (file : List ℕ) → Fit a → AllBelow 256 file → NoAdapters file → loadRefusal a file ≡ 8
-  -- What a load leaves is within its ranges, as after every call.
+  -- What a load leaves is within its ranges, as after every call; a load that is done gives "rest".
   pub loaded-fit : (a : Adapter) (file : List ℕ) → Fit a → Fit (loaded a file)
+  pub loaded-rests : (a : Adapter) (file : List ℕ) → loadRefusal a file ≡ 0 → Resting (loaded a file)
   -- A room exactly as long is enough.
-  pub room-enough : (a : Adapter) (room : List ℕ) → Fit a → length (saved a) ≤ length room → saveRefusal a room ≡ 0
+  pub room-enough : (a : Adapter) (room : List ℕ) → Fit a → Resting a → length (saved a) ≤ length room → saveRefusal a room ≡ 0
+  -- "A save gives 10, after 7, unless beam and copper are at rest."
+  pub off-rest : (a : Adapter) (room : List ℕ) → Fit a → (Resting a → ⊥) → length (saved a) ≤ length room → saveRefusal a room ≡ 10
+  pub short-first : (a : Adapter) (room : List ℕ) → Fit a → length room < length (saved a) → saveRefusal a room ≡ 7
   -- "… and leaves the room behind it untouched"; refusals "change nothing".
   pub room-behind : (a : Adapter) (room : List ℕ) → saveRefusal a room ≡ 0
       → drop (length (saved a)) (roomAfter a room) ≡ drop (length (saved a)) room
@@ -82,6 +92,12 @@ pub record SavesAndLoads : Type 0 where
       → length (w .state) ≡ stateWords → length (u .state) ≡ stateWords
       → Saves (adapterOf w) room told after → told .refusal ≡ 0 → Saves (adapterOf u) room′ told′ after′ → told′ .refusal ≡ 0
       → take (told .value) after ≡ take (told′ .value) after′ → w ≡ u
+  -- A save of an adapter that is not at rest, with room enough, is refused with 10 and leaves the room; where it is done, the adapter
+  -- is at rest, and so is one that a load gives.
+  pub save-off-rest : (a : Adapter) (room : List ℕ) (told : Answer) (after : List ℕ) → Saves a room told after
+      → Fit a → (Resting a → ⊥) → length (saved a) ≤ length room → (told .refusal ≡ 10) × (told .value ≡ 0) × (after ≡ room)
+  pub saves-rest : (a : Adapter) (room : List ℕ) (told : Answer) (after : List ℕ) → Saves a room told after → told .refusal ≡ 0 → Resting a
+  pub gives-rest : (a : Adapter) (file : List ℕ) (told : Answer) (b : Adapter) → Loads a file told b → told .refusal ≡ 0 → Resting b
   -- A load that is done gives the adapter whose file it is, and a save of that is done and puts that file there.
   pub load-gives : (a : Adapter) (file : List ℕ) (told : Answer) (b : Adapter) → Loads a file told b → told .refusal ≡ 0 → saved b ≡ file
   pub load-then-save : (a : Adapter) (file : List ℕ) (told : Answer) (b : Adapter) (room : List ℕ) (answer : Answer) (after : List ℕ)

@@ -1,4 +1,4 @@
--- What a save and a load are refused with, answer and leave (document 02, request 1). Neither is an event of demand 3.
+-- What a save and a load are refused with, answer and leave (document 02, requests 1 and 3). Neither is an event of demand 3.
 use mathlib.Core.Path.{_≡_}
 use mathlib.Core.Bool.{Bool, cond, not}
 use mathlib.Core.List.{List, [], _∷_, _++_}
@@ -8,6 +8,7 @@ use lib.ListN.{length, drop}
 use Rattle.xosera.specs.declared.SaveAnswer.{SaveAnswer}
 use Rattle.xosera.specs.declared.LoadAnswer.{LoadAnswer}
 use Rattle.xosera.specs.Adapter.{Adapter}
+use Rattle.xosera.specs.Beam.{atRest}
 use Rattle.xosera.specs.Events.{Answer, maskless}
 use Rattle.xosera.specs.Refusals.{_when_, lentTests, first}
 use Rattle.saved_file.specs.SavedFile.{saved, held, isSaved}
@@ -15,6 +16,10 @@ use Rattle.saved_file.specs.SavedFile.{saved, held, isSaved}
 -- 7: room too short.
 unfoldable pub shortRoom : Adapter → List ℕ → Bool
 shortRoom a room = ltb (length room) (length (saved a))
+
+-- 10: beam and copper not at rest (request 3).
+unfoldable pub notAtRest : Adapter → Bool
+notAtRest a = not (atRest (a .side .beam))
 
 -- 8: not a saved adapter.
 unfoldable pub notSaved : List ℕ → Bool
@@ -24,9 +29,9 @@ notSaved file = not (isSaved file)
 unfoldable pub otherLength : Adapter → List ℕ → Bool
 otherLength a file = not (eqb (length (held file .vram)) (length (a .vram)))
 
--- "Refusals: 1 to 3, then 7": of a save.
+-- "Refusals: 1 to 3, then 7", then 10 (request 3: "after 7"): of a save.
 unfoldable pub saveRefusal : Adapter → List ℕ → ℕ
-saveRefusal a room = first (lentTests a ((7 when shortRoom a room) ∷ []))
+saveRefusal a room = first (lentTests a ((7 when shortRoom a room) ∷ (10 when notAtRest a) ∷ []))
 
 -- "1 to 3, then …, 8 …, 9": of a load; 1 to 3 are of the state and memories handed in.
 unfoldable pub loadRefusal : Adapter → List ℕ → ℕ

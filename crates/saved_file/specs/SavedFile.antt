@@ -1,12 +1,13 @@
--- A saved adapter as a file of bytes (document 02, request 1). A file is 28 bytes of contents and the bodies of three sections;
--- docs/SAVED.md has its places in a table.
+-- A saved adapter as a file of bytes (document 02, requests 1 and 3). A file is 28 bytes of contents and the bodies of three
+-- sections; docs/SAVED.md has its places in a table.
 use mathlib.Core.Bool.{Bool, true, false, _&&_}
 use mathlib.Core.List.{List, [], _∷_, _++_, map}
 use Prim.Native.Nat.{ℕ, suc, _+_, _*_, _/_, _%_}
 use lib.Dec.{eqb}
 use lib.ListN.{length, take, drop}
-use Rattle.xosera.specs.State.{laidOut}
+use Rattle.xosera.specs.State.{beamWords, registerWords}
 use Rattle.xosera.specs.Adapter.{Adapter, adapterAt, stateOf}
+use Rattle.xosera.specs.Beam.{rest}
 use Rattle.xosera.specs.Refusals.{lentTests, first}
 
 -- "All numbers have the high byte first": words as bytes.
@@ -36,9 +37,10 @@ joined (body ∷ more) = body ++ joined more
 unfoldable pub fileOf : List (List ℕ) → List ℕ
 fileOf bodies = contents (map length bodies) ++ joined bodies
 
--- The file of an adapter: "kind 1 the state, in an order fixed in docs/; 2 XR memory; 3 VRAM".
+-- The file of an adapter: "kind 1 the state, in an order fixed in docs/; 2 XR memory; 3 VRAM". Beam and copper are not in it: only
+-- an adapter that has them at rest is saved (request 3).
 unfoldable pub saved : Adapter → List ℕ
-saved a = fileOf (bytesOf (laidOut (stateOf a)) ∷ bytesOf (a .side .xr) ∷ bytesOf (a .vram) ∷ [])
+saved a = fileOf (bytesOf (registerWords (stateOf a)) ∷ bytesOf (a .side .xr) ∷ bytesOf (a .vram) ∷ [])
 
 -- Bytes as words; a last byte by itself is left out.
 unfoldable pub wordsOf : List ℕ → List ℕ
@@ -46,10 +48,14 @@ wordsOf [] = []
 wordsOf (b ∷ []) = []
 wordsOf (h ∷ l ∷ more) = (h * 256 + l) ∷ wordsOf more
 
+-- The words of a state by the body of its section: behind those in the file, beam and copper at rest "after … a load" (request 3).
+unfoldable pub heldWords : List ℕ → List ℕ
+heldWords body = wordsOf body ++ beamWords rest
+
 -- The adapter that stands in any bytes where that of a saved adapter does: the state at byte 28, 150 bytes long, XR memory at 178,
 -- 13,312 bytes long, and VRAM from byte 13,490 on.
 unfoldable pub held : List ℕ → Adapter
-held file = adapterAt (wordsOf (take 150 (drop 28 file))) (wordsOf (drop 13490 file)) (wordsOf (take 13312 (drop 178 file)))
+held file = adapterAt (heldWords (take 150 (drop 28 file))) (wordsOf (drop 13490 file)) (wordsOf (take 13312 (drop 178 file)))
 
 -- Equal byte for byte.
 unfoldable pub sameBytes : List ℕ → List ℕ → Bool

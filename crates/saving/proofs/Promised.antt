@@ -1,24 +1,26 @@
 -- A save or load that is refused keeps the promise, and so does one that is done; the refusals in their order.
 use mathlib.Core.Path.{_≡_, refl, sym, ap, _∙_}
 use mathlib.Core.Bool.{true, false}
-use mathlib.Core.List.{List, _++_}
+use mathlib.Core.List.{List, [], _∷_, _++_}
 use Prim.Native.Nat.{ℕ, _+_, _*_, _≤_, _<_}
 use native.Mathlib.Omega.{arith}
-use borrow.Author.Tests.{eq-eqb, ne-eqb, lt-ltb}
+use borrow.Author.Tests.{eq-eqb, ne-eqb, le-ltb}
 use lib.Dec.{eqb}
 use lib.ListN.{length, drop}
 use Rattle.xosera.specs.State.{stateAt}
 use Rattle.xosera.specs.Adapter.{Adapter, adapterAt}
+use Rattle.xosera.specs.Beam.{atRest}
 use Rattle.xosera.specs.Events.{maskless}
-use Rattle.xosera.specs.Refusals.{Fit, first}
+use Rattle.xosera.specs.Refusals.{Fit, _when_, first}
 use Rattle.xosera.proofs.Branches.{cond-yes, cond-no}
 use Rattle.refusals.specs.Tested.{lentRefusal}
 use Rattle.refusals.proofs.Accepted.{step-fit}
 use Rattle.refusals.proofs.RefusalOrder.{lent-first, step-refusal}
 use Rattle.saved_file.specs.SavedFile.{saved, held, isSaved}
-use Rattle.saved_file.specs.SaveLoad.{saveRefusal, saveAnswer, roomAfter, loadRefusal, loadAnswer, loaded, shortRoom, notSaved, otherLength, Saves, Loads}
+use Rattle.saved_file.specs.SaveLoad.{saveRefusal, saveAnswer, roomAfter, loadRefusal, loadAnswer, loaded, Saves, Loads}
+use Rattle.saved_file.specs.SaveLoad.{shortRoom, notAtRest, notSaved, otherLength}
 use Rattle.saved_file.proofs.SavedLaws.{saved-length, saved-facts}
-use Rattle.saved_file.proofs.SavedAdapters.{save-tests, load-tests, room-enough}
+use Rattle.saved_file.proofs.SavedAdapters.{save-tests, load-tests, short-first}
 
 module _ (a : Adapter) (room : List ℕ) where
   pub save-refused : (r : ℕ) → r ≡ saveRefusal a room → (r ≡ 0 → ⊥) → Saves a room (maskless r 0) room
@@ -72,11 +74,21 @@ module _ (ws v x : List ℕ) {lent : ℕ} (h : lent ≡ lentRefusal (length v) (
   -- None of the three applies: then the room, or the file.
   module _ (z : lent ≡ 0) where
     pub save-short : (room : List ℕ) → length room < 13490 + 2 * length v → 7 ≡ saveRefusal here room
-    unfolding shortRoom first
-    save-short room l = sym (save-tests here room (fit z) ∙ rw (saved-length ws v x (fit z .xr), lt-ltb _ _ l))
+    save-short room l = sym (short-first here room (fit z) (omega (arith, saved-length ws v x (fit z .xr))))
 
-    pub save-fits : (room : List ℕ) → 13490 + 2 * length v ≤ length room → saveRefusal here room ≡ 0
-    save-fits room l = room-enough here room (fit z) (omega (arith, saved-length ws v x (fit z .xr)))
+    -- With room enough, rest decides.
+    module _ (room : List ℕ) (l : 13490 + 2 * length v ≤ length room) where
+      save-decided : saveRefusal here room ≡ first ((10 when notAtRest here) ∷ [])
+      unfolding shortRoom first
+      save-decided = save-tests here room (fit z) ∙ rw (saved-length ws v x (fit z .xr), le-ltb _ _ l)
+
+      pub save-off-rest : atRest (stateAt ws .beam) ≡ false → 10 ≡ saveRefusal here room
+      unfolding notAtRest first
+      save-off-rest off = sym (save-decided ∙ rw off)
+
+      pub save-fits : atRest (stateAt ws .beam) ≡ true → saveRefusal here room ≡ 0
+      unfolding notAtRest first
+      save-fits rests = save-decided ∙ rw rests
 
     pub load-unsaved : (file : List ℕ) → isSaved file ≡ false → 8 ≡ loadRefusal here file
     unfolding notSaved first

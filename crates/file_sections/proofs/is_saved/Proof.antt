@@ -12,7 +12,7 @@ use Rattle.xosera.specs.Memories.{isVramLength}
 use Rattle.xosera.specs.Ranges.{inRange}
 use Rattle.xosera.proofs.Branches.{not-passed, clash}
 use Rattle.vram.proofs.Lengths.{length-bounds}
-use Rattle.saved_file.specs.SavedFile.{contents, wordsOf, held, sameBytes, isSaved}
+use Rattle.saved_file.specs.SavedFile.{contents, heldWords, held, sameBytes, isSaved}
 use Rattle.saved_file.proofs.SavedLaws.{IsSaved, saved-facts, saved-test}
 use Rattle.file_sections.proofs.is_saved.Statement.{statement}
 use Rattle.file_sections.proofs.is_saved.Tie as tie
@@ -52,7 +52,7 @@ module _ (c : tie.Else3) where
   twice = omega (arith, c .before .before .if2 .left)
 
   pub decided : isSaved file
-      ≡ (sameBytes (contents (150 ∷ 13312 ∷ (length file - 13490) ∷ [])) (take 28 file) && inRange (stateAt (wordsOf (take 150 (drop 28 file)))))
+      ≡ (sameBytes (contents (150 ∷ 13312 ∷ (length file - 13490) ∷ [])) (take 28 file) && inRange (stateAt (heldWords (take 150 (drop 28 file)))))
   decided =
       let long : length file ≡ 13490 + 2 * vram = omega (arith, twice, c .before .before .before .if1 .left) in
       saved-test file vram long (λ i. omega (arith, c .before .before .before .before .shared-slice-known .given i)) legal ∙ rw twice refl

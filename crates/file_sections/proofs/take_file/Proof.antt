@@ -10,6 +10,18 @@ use Rattle.saved_file.specs.SavedFile.{wordsOf, held}
 use Rattle.file_sections.proofs.take_file.Statement.{statement}
 use Rattle.file_sections.proofs.take_file.Tie as tie
 
+sub-get-state : tie.Need-sub-get-state
+sub-get-state c = search needs
+
+part-get-state-start : tie.Need-part-get-state-start
+part-get-state-start c = search needs
+
+part-get-state-end : tie.Need-part-get-state-end
+part-get-state-end c = search needs
+
+get-state-requires : tie.Need-get-state-requires
+get-state-requires c κs = search needs
+
 sub-get-words : tie.Need-sub-get-words
 sub-get-words c = search needs
 
@@ -34,18 +46,6 @@ part-get-words-end-2 c = search needs
 get-words-requires-2 : tie.Need-get-words-requires-2
 get-words-requires-2 c κs = search needs
 
-sub-get-words-3 : tie.Need-sub-get-words-3
-sub-get-words-3 c = search needs
-
-part-get-words-start-3 : tie.Need-part-get-words-start-3
-part-get-words-start-3 c = search needs
-
-part-get-words-end-3 : tie.Need-part-get-words-end-3
-part-get-words-end-3 c = search needs
-
-get-words-requires-3 : tie.Need-get-words-requires-3
-get-words-requires-3 c κs = search needs
-
 same-length : tie.Need-same-length
 same-length c = search needs
 
@@ -61,15 +61,19 @@ returns c =
     let xr = c .before .before .before .before .before .before .before in
     let s = xr .before .before .before .before .before in
     let file = s .before .before .before .before .before .before .before .args .file .now in
-    let state = s .get-words .ensures in
-    let tail = c .before .before .get-words3 .ensures ∙ ap wordsOf (take-all (length file - 13490) (drop 13490 file) (omega (arith, length-drop 13490 file))) in
-    let middle = xr .get-words2 .ensures in
+    let state = s .get-state .ensures in
+    let tail = c .before .before .get-words2 .ensures ∙ ap wordsOf (take-all (length file - 13490) (drop 13490 file) (omega (arith, length-drop 13490 file))) in
+    let middle = xr .get-words .ensures in
     λ i. adapterAt (state i) (tail i) (middle i)
 
 pub take-file-spec : {M : Type 1} → statement M
 take-file-spec =
     tie.close
     (tie.spec
+    sub-get-state
+    part-get-state-start
+    part-get-state-end
+    get-state-requires
     sub-get-words
     part-get-words-start
     part-get-words-end
@@ -78,10 +82,6 @@ take-file-spec =
     part-get-words-start-2
     part-get-words-end-2
     get-words-requires-2
-    sub-get-words-3
-    part-get-words-start-3
-    part-get-words-end-3
-    get-words-requires-3
     same-length
     same-length-2
     same-length-3

@@ -15,13 +15,16 @@ use Rattle.saving.proofs.load.Tie as tie
 registers-in-range-requires : tie.Need-registers-in-range-requires
 registers-in-range-requires c κs = search needs
 
+beam-in-range-requires : tie.Need-beam-in-range-requires
+beam-in-range-requires c κs = search needs
+
 lent-refusal-requires : tie.Need-lent-refusal-requires
 lent-refusal-requires c κs = search needs
 
 -- The adapter and the file at the call.
 module _ (c : tie.After-lent-refusal) where
   abbrev began : tie.Start
-  began = c .before .before .before .before .before .before .before
+  began = c .before .before .before .before .before .before .before .before .before
 
   abbrev words : List ℕ
   words = began .args .s .now
@@ -105,6 +108,7 @@ load-spec =
     tie.close
     (tie.spec
     registers-in-range-requires
+    beam-in-range-requires
     lent-refusal-requires
     returns
     is-saved-requires
