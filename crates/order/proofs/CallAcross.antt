@@ -8,20 +8,22 @@ use lib.Dec.{eqb}
 use borrow.Author.Tests.{eq-eqb}
 use Rattle.xosera.specs.State.{isSet}
 use Rattle.xosera.specs.Memories.{place, word, Store, stored}
-use Rattle.xosera.specs.Adapter.{Side, Adapter}
+use Rattle.xosera.specs.Adapter.{Side, Adapter, stateOf}
 use Rattle.xosera.specs.Blitter.{blitWords, engineLeft, wordsLeft}
 use Rattle.xosera.specs.Plan.{Act, vramLoaded, carriedOut, perform}
 use Rattle.xosera.specs.Events.{Call, call}
 use Rattle.xosera.specs.Refusals.{Fit, refusal}
 use Rattle.xosera.specs.Calls.{actOf, done, after}
 use Rattle.xosera.proofs.Branches.{cond-yes, cond-no, cond-either}
+use Rattle.xosera.proofs.RangeLaws.{in-range-copper}
+use Rattle.xosera.proofs.BeamLaws.{disabled-arrives-stopped}
 use Rattle.xosera.proofs.PlanLaws.{after-fit}
 use Rattle.order.specs.Order.{accepted, blitWrites}
 use Rattle.order.specs.Work.{callTries}
 use Rattle.order.proofs.StoreLaws.{stored-place}
 use Rattle.order.proofs.Footprint.{steps-word}
 use Rattle.order.proofs.StoreAcross.{Beside, waiting-same, Clear, steps-beside, SameWords, same-words}
-use Rattle.order.proofs.Acts.{call-starts-exactly, call-writes-exactly, call-loads-exactly, call-waits}
+use Rattle.order.proofs.Acts.{Still, call-starts-exactly, call-writes-exactly, call-loads-exactly, call-waits, act-alike}
 use Rattle.order.proofs.Fit.{unqueued-tries-none, refused-alike}
 use Rattle.order.proofs.Status.{changed-alike}
 use Rattle.order.proofs.Finish.{finished, Finishes, OnCourse}
@@ -100,7 +102,7 @@ carried-finishes p a r aside f fit fit-ref = record {
 }
 
 -- A call that is accepted and starts nothing, and one that is refused.
-after-carried : (a : Adapter) (c : Call) → accepted a (call c) ≡ true → actOf (a .side) c .start ≡ false → after a (call c) ≡ carriedOut (actOf (a .side) c) a
+after-carried : (a : Adapter) (c : Call) → accepted a (call c) ≡ true → actOf a c .start ≡ false → after a (call c) ≡ carriedOut (actOf a c) a
 unfolding accepted after done perform
 after-carried a c ok starts = cond-yes _ a ok ∙ cond-no _ _ starts
 
@@ -110,6 +112,11 @@ after-refused a c nope = cond-no _ a nope
 
 module _ {full : Bool} {reads writes : ℕ → Bool} {n : ℕ} (a r : Adapter) (c : Call) (course : OnCourse full reads writes n a r)
     (apart : Apart full reads writes a c) where
+  still : Still a
+  still =
+      let f = course .finishes in
+      disabled-arrives-stopped (a .side) (apart .disabled) (in-range-copper (stateOf a) (f .fit .state))
+
   tries-none : callTries a c ≡ false
   tries-none = go full refl
     where
@@ -128,32 +135,32 @@ module _ {full : Bool} {reads writes : ℕ → Bool} {n : ℕ} (a r : Adapter) (
   accepted-alike = ap (λ (k : ℕ). eqb k 0) call-refused-alike
 
   module _ (ok : accepted a (call c) ≡ true) where
-    starts-none : actOf (a .side) c .start ≡ false
-    starts-none = sym (rw ok at (call-starts-exactly a c)) ∙ apart .starts-none
+    starts-none : actOf a c .start ≡ false
+    starts-none = sym (rw ok at (call-starts-exactly a c still)) ∙ apart .starts-none
 
-    call-aside : Aside (actOf (a .side) c) a
+    call-aside : Aside (actOf a c) a
     call-aside =
-        let at : ℕ = place (a .vram) (readAddress (actOf (a .side) c)) in
+        let at : ℕ = place (a .vram) (readAddress (actOf a c)) in
         record {
           clear = record {
             unread = λ w t. course .within .unread w (apart .writes-none-read w (rw ok at (call-writes-exactly a c w) ∙ t));
             unwritten = λ w t. course .within .unwritten w (apart .writes-none-written w (rw ok at (call-writes-exactly a c w) ∙ t));
           };
           unwritten = λ l. course .within .unwritten at (apart .loads-none-written at (call-loads-exactly a c at ∙ rw (ok, l) (eq-eqb at at refl)));
-          waits = call-waits a c tries-none;
+          waits = call-waits a c still tries-none;
         }
 
-    after-adapter : after a (call c) ≡ carriedOut (actOf (a .side) c) a
+    after-adapter : after a (call c) ≡ carriedOut (actOf a c) a
     after-adapter = after-carried a c ok starts-none
 
-    after-reference : after r (call c) ≡ carriedOut (actOf (a .side) c) r
+    after-reference : after r (call c) ≡ carriedOut (actOf a c) r
     after-reference =
-        subst (λ (s : Side). actOf s c .start ≡ false → after r (call c) ≡ carriedOut (actOf s c) r) (course .finishes .side)
+        subst (λ (p : Act). p .start ≡ false → after r (call c) ≡ carriedOut p r) (act-alike a r c (course .finishes .side) still)
         (after-carried r c (accepted-alike ∙ ok)) starts-none
 
-    carried-on-course : OnCourse full reads writes n (carriedOut (actOf (a .side) c) a) (carriedOut (actOf (a .side) c) r)
+    carried-on-course : OnCourse full reads writes n (carriedOut (actOf a c) a) (carriedOut (actOf a c) r)
     carried-on-course =
-        let p : Act = actOf (a .side) c in
+        let p : Act = actOf a c in
         let fit : Fit (carriedOut p a) = subst Fit after-adapter (after-fit a (call c) (course .finishes .fit)) in
         let fit-ref : Fit (carriedOut p r) = subst Fit after-reference (after-fit r (call c) (course .finishes .fit-ref)) in
         record {

@@ -11,9 +11,10 @@ use Rattle.xosera.specs.Words.{withoutBit}
 use Rattle.xosera.specs.Fields.{Flags, flagBits}
 use Rattle.xosera.specs.Adapter.{Side, Adapter, stateOf}
 use Rattle.xosera.specs.HostBytes.{shown, flagsOf, highByte, lowByte}
-use Rattle.xosera.specs.Events.{Call, write, read, tick, frameEnd, line, call}
+use Rattle.xosera.specs.Copper.{beamStep}
+use Rattle.xosera.specs.Events.{Call, write, read, tick, beam, line, call}
 use Rattle.xosera.specs.Refusals.{refusal}
-use Rattle.xosera.specs.Calls.{given, wrote, answer}
+use Rattle.xosera.specs.Calls.{actOf, given, wrote, answer}
 use Rattle.xosera.proofs.Branches.{cond-same}
 use Rattle.xosera.proofs.Tables.{Each, _and_, getD-each}
 use Rattle.xosera.proofs.RangeLaws.{in-range-status}
@@ -38,31 +39,45 @@ low-alike full h s t n e =
     shown-alike (λ r. agreedWork full (read r true)) (shown h n % 256) ((λ _. h .vram .nibbles) ∷ (λ status. status) ∷ (λ _. h .timer .saved) ∷ []) s t
     (refl and simp cond-same e and refl and tt) n
 
--- Even reads show whether the blitter is full and busy at 0 alone; it is not full where no blit was queued at first.
-abbrev atRest : Flags
-atRest = record { full = false; busy = false }
+-- Even reads show whether the blitter is full and busy at 0 alone; it is not full where no blit was queued at first. The beam is
+-- where it is.
+abbrev idleFlags : Flags → Flags
+idleFlags f = record { full = false; busy = false; hblank = f .hblank; vblank = f .vblank }
 
-flags-alike : (full queued busy : Bool) → (full ≡ false → queued ≡ false) →
-    agreedWork full (read 0 false) (flagBits atRest) ≡ agreedWork full (read 0 false) (flagBits (record { full = queued; busy = busy }))
+each-blank : (P : Bool → Bool → Type 0) → P true true → P true false → P false true → P false false → (h v : Bool) → P h v
+each-blank P a b c d true true = a
+each-blank P a b c d true false = b
+each-blank P a b c d false true = c
+each-blank P a b c d false false = d
+
+abbrev FlagsAlike : Bool → Bool → Bool → Bool → Bool → Type 0
+FlagsAlike full queued busy h v =
+    agreedWork full (read 0 false) (flagBits (record { full = false; busy = false; hblank = h; vblank = v })) ≡
+    agreedWork full (read 0 false) (flagBits (record { full = queued; busy = busy; hblank = h; vblank = v }))
+
+flags-alike : (full queued busy h v : Bool) → (full ≡ false → queued ≡ false) → FlagsAlike full queued busy h v
 unfolding agreedWork withoutFull agreed flagBits withoutBit
-flags-alike true true true alone = refl
-flags-alike true true false alone = refl
-flags-alike true false true alone = refl
-flags-alike true false false alone = refl
-flags-alike false true busy alone = absurd (true≢false (alone refl))
-flags-alike false false true alone = refl
-flags-alike false false false alone = refl
+flags-alike true true true h v alone = each-blank (FlagsAlike true true true) refl refl refl refl h v
+flags-alike true true false h v alone = each-blank (FlagsAlike true true false) refl refl refl refl h v
+flags-alike true false true h v alone = each-blank (FlagsAlike true false true) refl refl refl refl h v
+flags-alike true false false h v alone = each-blank (FlagsAlike true false false) refl refl refl refl h v
+flags-alike false false true h v alone = each-blank (FlagsAlike false false true) refl refl refl refl h v
+flags-alike false false false h v alone = each-blank (FlagsAlike false false false) refl refl refl refl h v
+flags-alike false true busy h v alone = absurd (true≢false (alone refl))
 
 high-alike : (full : Bool) (h : Host) (f : Flags) (n : ℕ) → (full ≡ false → f .full ≡ false) →
-    agreedWork full (read n false) (highByte h atRest n) ≡ agreedWork full (read n false) (highByte h f n)
+    agreedWork full (read n false) (highByte h (idleFlags f) n) ≡ agreedWork full (read n false) (highByte h f n)
 unfolding highByte
 high-alike full h f n alone =
-    shown-alike (λ r. agreedWork full (read r false)) (shown h n / 256) (flagBits ∷ (λ _. h .intmask) ∷ (λ _. h .timer .count / 256) ∷ []) atRest f
-    (flags-alike full (f .full) (f .busy) alone and refl and refl and tt) n
+    shown-alike (λ r. agreedWork full (read r false)) (shown h n / 256) (flagBits ∷ (λ _. h .intmask) ∷ (λ _. h .timer .count / 256) ∷ []) (idleFlags f) f
+    (flags-alike full (f .full) (f .busy) (f .hblank) (f .vblank) alone and refl and refl and tt) n
 
 module _ {full : Bool} (a r : Adapter) (f : Finishes full a r) where
   host-alike : r .side .host ≡ a .side .host
   host-alike = ap (λ (s : Side). s .host) (f .side)
+
+  beam-alike : r .side .beam ≡ a .side .beam
+  beam-alike = ap (λ (s : Side). s .beam) (f .side)
 
   reference-off : isSet (r .engine .running) ≡ false
   reference-off = ap (λ (e : Engine). isSet (e .running)) (f .engine)
@@ -75,9 +90,10 @@ module _ {full : Bool} (a r : Adapter) (f : Finishes full a r) where
   unfolding given agreedWork agreed
   given-alike (write n odd b) = refl
   given-alike (read n true) = rw host-alike (low-alike full (a .side .host) (r .status) (a .status) n status-alike)
-  given-alike (read n false) = rw (host-alike, f .unqueued, reference-off) (high-alike full (a .side .host) (flagsOf (stateOf a)) n (f .alone))
+  given-alike (read n false) =
+      rw (host-alike, beam-alike, f .unqueued, reference-off) (high-alike full (a .side .host) (flagsOf (stateOf a)) n (f .alone))
   given-alike tick = refl
-  given-alike frameEnd = refl
+  given-alike beam = refl
   given-alike line = refl
 
   pub value-alike : (c : Call) → refusal r (call c) ≡ refusal a (call c) →
@@ -89,7 +105,15 @@ module _ {full : Bool} (a r : Adapter) (f : Finishes full a r) where
       go true = given-alike c
       go false = refl
 
-  -- A call's mask is its own store's, and the store is the same.
+  -- A call's mask is its own store's, and the store is the same; a beam step has none.
+  wrote-alike : (c : Call) → wrote r (call c) ≡ wrote a (call c)
+  unfolding wrote actOf beamStep
+  wrote-alike (write n odd b) = rw (f .side)
+  wrote-alike (read n odd) = rw (f .side)
+  wrote-alike tick = rw (f .side)
+  wrote-alike beam = refl
+  wrote-alike line = refl
+
   pub mask-alike : (c : Call) → refusal r (call c) ≡ refusal a (call c) → answer r (call c) .mask ≡ answer a (call c) .mask
-  unfolding answer wrote
-  mask-alike c e = rw (e, f .side)
+  unfolding answer
+  mask-alike c e = rw (e, wrote-alike c)

@@ -3,11 +3,12 @@ use mathlib.Core.Path.{_≡_}
 use mathlib.Core.Bool.{Bool, true, false}
 use mathlib.Core.List.{List, [], _∷_}
 use Prim.Native.Nat.{ℕ}
+use Rattle.xosera.specs.Fields.{copperEnabled}
 use Rattle.xosera.specs.Adapter.{Adapter}
 use Rattle.xosera.specs.Events.{Call, Event, call, step, run}
 use Rattle.xosera.specs.Calls.{after}
-use Rattle.order.specs.Order.{callStarts, callWrites, callLoads, blitReads, blitWrites, AllCalls, Keeps}
-use Rattle.order.specs.Order.{startsNone, writesNoneRead, writesNoneWritten, loadsNoneWritten}
+use Rattle.order.specs.Order.{callStarts, callWrites, callLoads, blitReads, blitWrites, AllCalls, Throughout, Keeps}
+use Rattle.order.specs.Order.{startsNone, writesNoneRead, writesNoneWritten, loadsNoneWritten, copperDisabled}
 use Rattle.order.specs.Work.{callTries}
 
 module _ (P Q : Adapter → Call → Type 0) where
@@ -23,6 +24,13 @@ module _ (P Q : Adapter → Call → Type 0) where
   all-map f (step ∷ es) a p = all-map f es (after a step) p
   all-map f (run n ∷ es) a p = all-map f es (after a (run n)) p
 
+-- What holds of the adapter throughout a list holds at every call.
+throughout-calls : (P : Adapter → Type 0) (es : List Event) (a : Adapter) → Throughout P a es → AllCalls (λ b c. P b) a es
+throughout-calls P [] a p = tt
+throughout-calls P (call c ∷ es) a p = (p .0, throughout-calls P es (after a (call c)) (p .1))
+throughout-calls P (step ∷ es) a p = throughout-calls P es (after a step) (p .1)
+throughout-calls P (run n ∷ es) a p = throughout-calls P es (after a (run n)) (p .1)
+
 -- A call that tries to write no blitter register while a blit is queued. `full` says whether one may be.
 abbrev pub Patient : Bool → Adapter → Call → Type 0
 Patient full a c = full ≡ true → callTries a c ≡ false
@@ -33,6 +41,7 @@ pub record Apart (full : Bool) (reads writes : ℕ → Bool) (a : Adapter) (c : 
   pub writes-none-read : (w : ℕ) → callWrites a c w ≡ true → reads w ≡ false
   pub writes-none-written : (w : ℕ) → callWrites a c w ≡ true → writes w ≡ false
   pub loads-none-written : (w : ℕ) → callLoads a c w ≡ true → writes w ≡ false
+  pub disabled : copperEnabled (a .side .video .coppctrl) ≡ false
   pub patient : Patient full a c
 
 pub keeps-apart : (full : Bool) (n : ℕ) (s : Adapter) (es : List Event) → Keeps n s es → AllCalls (Patient full) s es →
@@ -43,10 +52,12 @@ keeps-apart full n s es keeps patient =
       writes-none-read = k .1 .0;
       writes-none-written = k .1 .1 .0;
       loads-none-written = k .1 .1 .1 .0;
-      patient = k .1 .1 .1 .1;
+      disabled = k .1 .1 .1 .1 .0;
+      patient = k .1 .1 .1 .1 .1;
     })
     es s
     (all-zip _ _ es s (keeps startsNone)
     (all-zip _ _ es s (keeps writesNoneRead)
     (all-zip _ _ es s (keeps writesNoneWritten)
-    (all-zip _ _ es s (keeps loadsNoneWritten) patient))))
+    (all-zip _ _ es s (keeps loadsNoneWritten)
+    (all-zip _ _ es s (throughout-calls _ es s (keeps copperDisabled)) patient)))))

@@ -4,7 +4,7 @@ use mathlib.Core.Bool.{false, and-eq-true-iff}
 use Rattle.xosera.specs.State.{isSet}
 use Rattle.xosera.specs.Adapter.{Adapter, stateOf}
 use Rattle.xosera.specs.Blitter.{idle}
-use Rattle.xosera.specs.Events.{Call, write, read, tick, frameEnd, line, call}
+use Rattle.xosera.specs.Events.{Call, write, read, tick, beam, line, call}
 use Rattle.xosera.specs.Refusals.{Fit, blitterFull, reconfigures, tests, first, refusal}
 use Rattle.xosera.proofs.Branches.{clash, not-passed}
 use Rattle.xosera.proofs.EngineLaws.{idle-is}
@@ -21,7 +21,7 @@ unfolding callTries blitterFull
 unqueued-tries-none a (write r odd b) q = not-passed (blitterFull a r odd) (λ t. clash ((simp and-eq-true-iff at t) .1) q)
 unqueued-tries-none a (read r odd) q = refl
 unqueued-tries-none a tick q = refl
-unqueued-tries-none a frameEnd q = refl
+unqueued-tries-none a beam q = refl
 unqueued-tries-none a line q = refl
 
 -- Two fit adapters with the same side refuse the same calls, refusal 5 aside.
@@ -31,5 +31,5 @@ unfolding refusal tests first callTries reconfigures
 refused-alike a b (write r odd x) fa fb side ta tb = cc (fit-vram a fa, fit-xr a fa, fit-state a fa, fit-vram b fb, fit-xr b fb, fit-state b fb, side, ta, tb)
 refused-alike a b (read r odd) fa fb side ta tb = cc (fit-vram a fa, fit-xr a fa, fit-state a fa, fit-vram b fb, fit-xr b fb, fit-state b fb)
 refused-alike a b tick fa fb side ta tb = rw (fit-state a fa, fit-state b fb)
-refused-alike a b frameEnd fa fb side ta tb = rw (fit-state a fa, fit-state b fb)
+refused-alike a b beam fa fb side ta tb = cc (fit-vram a fa, fit-xr a fa, fit-state a fa, fit-vram b fb, fit-xr b fb, fit-state b fb)
 refused-alike a b line fa fb side ta tb = rw (fit-state a fa, fit-state b fb)

@@ -9,14 +9,14 @@ use lib.ListN.{getD}
 use borrow.Author.Tests.{eqb-true, eqb-false, not-true}
 use Rattle.xosera.specs.Adapter.{Adapter}
 use Rattle.xosera.specs.Events.{Call, Event, Answer}
-use Rattle.xosera.specs.Sequences.{wordsOf, afterAll}
+use Rattle.xosera.specs.Sequences.{Starts, wordsOf, afterAll}
 use Rattle.xosera.proofs.ComputedTables.{allSame, all-equal}
 use Rattle.order.specs.Order.{Condition, butBit6, Alike, blitFirst}
-use Rattle.order.specs.Order.{enoughSteps, startsNone, writesNoneRead, writesNoneWritten, loadsNoneWritten}
-use Rattle.order.specs.Witness.{begun}
-use Rattle.order.specs.Needed.{Case, broken, Breaks, begunTwice, fullRead, IdleNeeded, questions, clearing, MayDiffer, Needed, claimWords, ClaimWords}
+use Rattle.order.specs.Order.{enoughSteps, startsNone, writesNoneRead, writesNoneWritten, loadsNoneWritten, copperDisabled}
+use Rattle.order.specs.Witness.{ready, begun}
+use Rattle.order.specs.Needed.{Case, copperReady, broken, begunFor, Breaks, begunTwice, fullRead, IdleNeeded, questions, clearing, MayDiffer}
+use Rattle.order.specs.Needed.{Needed, claimWords, ClaimWords}
 use Rattle.order.proofs.ComputingOrder.{computing-order}
-use Rattle.order.proofs.WitnessHolds.{witness}
 use Rattle.order.proofs.ConditionTests.{allConditions, conditions-tested, keeps-tested, othersTested, others-tested}
 
 -- Two lists that end in different numbers are not alike, if status bit 6 is not looked at.
@@ -32,6 +32,7 @@ look-unseen startsNone a = refl
 look-unseen writesNoneRead a = refl
 look-unseen writesNoneWritten a = refl
 look-unseen loadsNoneWritten a = refl
+look-unseen copperDisabled a = refl
 
 -- A list of n steps from s that breaks condition k alone, and both numbers.
 abbrev breaksTested : ℕ → Adapter → Case → Condition → Bool
@@ -39,17 +40,34 @@ breaksTested n s x k =
     othersTested k n s (x .list) && eqb (x .look (afterAll s (x .list))) (x .in-order)
     && eqb (x .look (afterAll s (blitFirst n (x .list)))) (x .blit-first) && not (eqb (x .in-order) (x .blit-first))
 
-breaks-computed : allConditions (λ k. breaksTested (wordsOf begun) begun (broken k) k) ≡ true
+breaks-computed : allConditions (λ k. breaksTested (wordsOf (begunFor k)) (begunFor k) (broken k) k) ≡ true
 unfolding computing-order othersTested
 breaks-computed = refl
 
+starts-ready : Starts ready 2
+unfolding computing-order
+starts-ready = record { accepted = refl; words = refl; idle = refl }
+
+starts-copper : Starts copperReady 2
+unfolding computing-order
+starts-copper = record { accepted = refl; words = refl; idle = refl }
+
+starts : (k : Condition) → Starts (broken k .from) 2
+starts enoughSteps = starts-ready
+starts startsNone = starts-ready
+starts writesNoneRead = starts-ready
+starts writesNoneWritten = starts-ready
+starts loadsNoneWritten = starts-ready
+starts copperDisabled = starts-copper
+
 breaks : (k : Condition) → Breaks k
 breaks k =
-    let t = simp and-eq-true-iff at (conditions-tested (λ j. breaksTested (wordsOf begun) begun (broken j) j) breaks-computed k) in
+    let t = simp and-eq-true-iff at (conditions-tested (λ j. breaksTested (wordsOf (begunFor j)) (begunFor j) (broken j) j) breaks-computed k) in
     let in-order = eqb-true _ _ (t .0 .0 .1) in
     let blit-first = eqb-true _ _ (t .0 .1) in
     record {
-      others = others-tested k (wordsOf begun) begun (broken k .list) (t .0 .0 .0);
+      starts = starts k;
+      others = others-tested k (wordsOf (begunFor k)) (begunFor k) (broken k .list) (t .0 .0 .0);
       in-order = in-order;
       blit-first = blit-first;
       not-alike = differ-not-alike (broken k .look) (look-unseen k) (broken k .in-order) (broken k .blit-first) (not-true _ (t .1)) in-order blit-first;
@@ -83,7 +101,7 @@ may-differ = record {
 }
 
 pub needed : Needed
-needed = record { starts = witness .starts; conditions = breaks; idle = idle-needed; exceptions = may-differ }
+needed = record { conditions = breaks; idle = idle-needed; exceptions = may-differ }
 
 claim-words-computed : T (allSame claimWords)
 unfolding computing-order

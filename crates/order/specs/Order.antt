@@ -7,11 +7,12 @@ use lib.Dec.{eqb}
 use lib.ListN.{getD, replicate}
 use Rattle.xosera.specs.State.{isSet}
 use Rattle.xosera.specs.Words.{wrap, withoutBit}
+use Rattle.xosera.specs.Fields.{copperEnabled}
 use Rattle.xosera.specs.Memories.{place}
 use Rattle.xosera.specs.Adapter.{Adapter}
 use Rattle.xosera.specs.HostBytes.{wordOf}
 use Rattle.xosera.specs.Blitter.{isConstant, stepped, stepMask}
-use Rattle.xosera.specs.Events.{Call, Event, Answer, write, read, tick, frameEnd, line, call, step, run}
+use Rattle.xosera.specs.Events.{Call, Event, Answer, write, read, tick, beam, line, call, step, run}
 use Rattle.xosera.specs.Refusals.{refusal}
 use Rattle.xosera.specs.Calls.{after, answer}
 use Rattle.xosera.specs.Sequences.{startWith, Starts, wordsOf, afterAll}
@@ -60,7 +61,7 @@ callWrites a (write r odd b) w =
     && not (eqb (a .side .host .vram .nibbles) 0) && eqb (place (a .vram) (a .side .host .vram .wraddr .0)) w
 callWrites a (read r odd) w = false
 callWrites a tick w = false
-callWrites a frameEnd w = false
+callWrites a beam w = false
 callWrites a line w = false
 
 -- It loads a word when it is an odd write to 7 or an odd read of 10 or 11, not refused: the word at the new address in 7.
@@ -71,15 +72,16 @@ callLoads a (read r odd) w =
     odd && (eqb r 10 || eqb r 11) && accepted a (call (read r odd))
     && eqb (place (a .vram) (wrap (a .side .host .vram .rdaddr .0) (a .side .host .vram .rdincr))) w
 callLoads a tick w = false
-callLoads a frameEnd w = false
+callLoads a beam w = false
 callLoads a line w = false
 
--- It starts or queues a blit when it is an odd write to XM_XDATA, not refused, with 0x49 in 4.
+-- It starts or queues a blit when it is an odd write to XM_XDATA, not refused, with 0x49 in 4. (A beam step is no access; what the copper
+-- would start is excluded by `copperDisabled`.)
 unfoldable pub callStarts : Adapter → Call → Bool
 callStarts a (write r odd b) = odd && eqb r 5 && accepted a (call (write r odd b)) && eqb (a .side .host .xr .wrxaddr .0) 0x49
 callStarts a (read r odd) = false
 callStarts a tick = false
-callStarts a frameEnd = false
+callStarts a beam = false
 callStarts a line = false
 
 -- A fold over the calls of a list, each with the adapter that the event before it left; blit steps and runs are passed over.
@@ -96,10 +98,16 @@ AllCalls P = alongCalls (λ a c rest. P a c × rest) (Unit {0})
 abbrev pub eachCall : {B : Type 0} → (Adapter → Call → B) → Adapter → List Event → List B
 eachCall f = alongCalls (λ a c rest. f a c ∷ rest) []
 
+-- What holds of the adapter at first and after every event of a list.
+abbrev pub Throughout : (Adapter → Type 0) → Adapter → List Event → Type 0
+Throughout P a [] = P a
+Throughout P a (e ∷ es) = P a × Throughout P (after a e) es
+
 -- What the mission asks of a list: at least as many steps in all as the blit has words, and no access that starts or queues another
--- blit, writes a word that this one reads, writes a word that it writes, or loads a word that it writes.
+-- blit, writes a word that this one reads, writes a word that it writes, or loads a word that it writes; and what request 3 of document
+-- 02 adds: "demand 3 now takes beam steps as events and needs bit 15 clear throughout".
 pub data Condition : Type 0 where
-  enoughSteps startsNone writesNoneRead writesNoneWritten loadsNoneWritten : Condition
+  enoughSteps startsNone writesNoneRead writesNoneWritten loadsNoneWritten copperDisabled : Condition
 
 -- What each asks of a list from s, where the next n steps are the blit's.
 abbrev pub Holds : Condition → ℕ → Adapter → List Event → Type 0
@@ -108,6 +116,7 @@ Holds startsNone n s es = AllCalls (λ a c. callStarts a c ≡ false) s es
 Holds writesNoneRead n s es = AllCalls (λ a c. (w : ℕ) → callWrites a c w ≡ true → blitReads n s w ≡ false) s es
 Holds writesNoneWritten n s es = AllCalls (λ a c. (w : ℕ) → callWrites a c w ≡ true → blitWrites n s w ≡ false) s es
 Holds loadsNoneWritten n s es = AllCalls (λ a c. (w : ℕ) → callLoads a c w ≡ true → blitWrites n s w ≡ false) s es
+Holds copperDisabled n s es = Throughout (λ a. copperEnabled (a .side .video .coppctrl) ≡ false) s es
 
 -- A list that meets them all.
 abbrev pub Keeps : ℕ → Adapter → List Event → Type 0
@@ -120,7 +129,7 @@ agreed (read r true) v = cond (eqb r 1) (withoutBit 6 v) v
 agreed (read r false) v = cond (eqb r 0) (withoutBit 5 v) v
 agreed (write r odd b) v = v
 agreed tick v = v
-agreed frameEnd v = v
+agreed beam v = v
 agreed line v = 0
 
 -- An answer, its refusal and mask included, by the bits that must agree; and the answers of a list's calls.

@@ -5,7 +5,7 @@ use mathlib.Core.Bool.{true, false}
 use mathlib.Core.List.{List, [], _∷_, _++_}
 use Rattle.xosera.specs.Adapter.{Adapter}
 use Rattle.xosera.specs.Blitter.{wordsLeft}
-use Rattle.xosera.specs.Events.{Event, write, tick, frameEnd, line, call, step, run}
+use Rattle.xosera.specs.Events.{Event, write, tick, beam, line, call, step, run}
 use Rattle.xosera.specs.Refusals.{Fit}
 use Rattle.xosera.specs.Calls.{after}
 use Rattle.xosera.specs.Sequences.{Starts, startWith, wordsOf, afterAll}
@@ -22,14 +22,14 @@ ready =
 abbrev pub begun : Adapter
 begun = after ready (startWith 2)
 
--- A store at 0x80 and loads from there between the blit's steps, with a refused write, a tick, a frame end and a line question.
+-- A store at 0x80 and loads from there between the blit's steps, with a refused write, a tick, a beam step and a line question.
 abbrev pub between : List Event
 between =
     step ∷ setWord 9 0x80
     ++ step ∷ setWord 10 0xBEEF
     ++ run 2 ∷ setWord 7 0x80
     ++ call (write 16 true 0) ∷ readWord 10
-    ++ call tick ∷ call frameEnd ∷ call line ∷ run 9 ∷ setWord 1 0x4040
+    ++ call tick ∷ call beam ∷ call line ∷ run 9 ∷ setWord 1 0x4040
     ++ step ∷ readWord 11
 
 pub record Witness : Type 0 where

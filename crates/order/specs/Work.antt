@@ -9,7 +9,7 @@ use Rattle.xosera.specs.State.{isSet}
 use Rattle.xosera.specs.Words.{withoutBit}
 use Rattle.xosera.specs.Adapter.{Adapter}
 use Rattle.xosera.specs.Blitter.{wordsLeft}
-use Rattle.xosera.specs.Events.{Call, Event, write, read, tick, frameEnd, line}
+use Rattle.xosera.specs.Events.{Call, Event, write, read, tick, beam, line}
 use Rattle.xosera.specs.Refusals.{Fit, blitterFull}
 use Rattle.order.specs.Order.{AllCalls, Keeps, agreed, Alike, blitFirst}
 
@@ -18,7 +18,7 @@ unfoldable pub callTries : Adapter → Call → Bool
 callTries a (write r odd b) = blitterFull a r odd
 callTries a (read r odd) = false
 callTries a tick = false
-callTries a frameEnd = false
+callTries a beam = false
 callTries a line = false
 
 -- The bits of an answer that must agree: where a blit was queued at first, bit 14 as read at 0 (bit 6 of its high byte) may
@@ -28,7 +28,7 @@ withoutFull (read r true) v = v
 withoutFull (read r false) v = cond (eqb r 0) (withoutBit 6 v) v
 withoutFull (write r odd b) v = v
 withoutFull tick v = v
-withoutFull frameEnd v = v
+withoutFull beam v = v
 withoutFull line v = v
 
 unfoldable pub agreedWork : Bool → Call → ℕ → ℕ
