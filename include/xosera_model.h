@@ -5,6 +5,7 @@
  * xosera/calls.h      The library: state, answers and the ten calls of libfirmware.a.
  * xosera/handle.h     The handle: a state with its two memories; refusals are kept and reported.
  * xosera/files.h      Files: an adapter is saved under a name and loaded again.
+ * xosera/copper.h     Copper programs: COP_WAIT_V(v), COP_MOVER(w, VID_CTRL), ...; loading one.
  * xosera/board.h      The board's spelling: xm_setw(WR_ADDR, a), vram_setw_next(w), ...
  *
  * C11 and C++17, gcc or clang, x86-64. Nothing but the library has to be linked.
@@ -17,6 +18,7 @@
 #include "xosera/calls.h"
 #include "xosera/handle.h"
 #include "xosera/files.h"
+#include "xosera/copper.h"
 #include "xosera/board.h"
 
 #endif /* XOSERA_MODEL_H */

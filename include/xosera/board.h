@@ -60,13 +60,13 @@
 #define vram_setw_next_wait(word)   vram_setw_next(word)
 #define vram_getw_next_wait()       vram_getw_next()
 
-/* Waiting does the work that the board does meanwhile, and so always ends: the blits run, the frame
- * ends. */
+/* Waiting does the work that the board does meanwhile, and so always ends: the blits run, the beam
+ * moves on. */
 #define xwait_mem_ready()  ((void)0)
 #define xwait_blit_done()  xosera_wait_blit_done(XOSERA_HERE)
 #define xwait_blit_ready() xosera_wait_blit_ready(XOSERA_HERE)
-#define xwait_not_vblank() ((void)0)
-#define xwait_vblank()     xosera_frame(XOSERA_HERE)
+#define xwait_not_vblank() xosera_wait_not_vblank(XOSERA_HERE)
+#define xwait_vblank()     xosera_wait_vblank(XOSERA_HERE)
 
 /* The board's macro that loads the register base; the model has none. */
 #define xv_prep() ((void)0)

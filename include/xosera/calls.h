@@ -17,15 +17,16 @@
  * question no, a refused save length 0. */
 typedef enum xosera_refusal {
     XOSERA_DONE = 0,
-    XOSERA_VRAM_LENGTH = 1,      /* VRAM is not a power of two of words from 256 to 65,536 */
-    XOSERA_XR_LENGTH = 2,        /* XR memory is not 6,656 words */
-    XOSERA_STATE_RANGE = 3,      /* a word of the state is out of its range */
-    XOSERA_NO_REGISTER = 4,      /* register number over 15 */
-    XOSERA_BLITTER_FULL = 5,     /* blitter register written while a blit is queued */
-    XOSERA_RECONFIGURE = 6,      /* XM_INT_CTRL written with INT_CTRL_RECONFIG_F set */
-    XOSERA_ROOM_SHORT = 7,       /* room too short for the file */
-    XOSERA_NO_SAVED_ADAPTER = 8, /* file is not a saved adapter */
-    XOSERA_SAVED_VRAM_LENGTH = 9 /* VRAM of the saved adapter is not as long as the memory lent */
+    XOSERA_VRAM_LENGTH = 1,       /* VRAM is not a power of two of words from 256 to 65,536 */
+    XOSERA_XR_LENGTH = 2,         /* XR memory is not 6,656 words */
+    XOSERA_STATE_RANGE = 3,       /* a word of the state is out of its range */
+    XOSERA_NO_REGISTER = 4,       /* register number over 15 */
+    XOSERA_BLITTER_FULL = 5,      /* blitter register written while a blit is queued */
+    XOSERA_RECONFIGURE = 6,       /* XM_INT_CTRL written with INT_CTRL_RECONFIG_F set */
+    XOSERA_ROOM_SHORT = 7,        /* room too short for the file */
+    XOSERA_NO_SAVED_ADAPTER = 8,  /* file is not a saved adapter */
+    XOSERA_SAVED_VRAM_LENGTH = 9, /* VRAM of the saved adapter is not as long as the memory lent */
+    XOSERA_NOT_AT_REST = 10       /* beam and copper are not at rest */
 } xosera_refusal;
 
 /* A VRAM address and an XR address never stand for one another, hence two types. */
@@ -105,11 +106,19 @@ typedef struct xosera_engine {
     xosera_blit_regs regs; /* as copied, lines mod 32,768; src_s and dst_d move on in place */
 } xosera_engine;
 
-/* The whole state of the adapter but for its memories: 75 words, flags and bytes too, and no
+/* The beam and the copper that follows it. All of it is 0 at rest, as after a reset or a load. */
+typedef struct xosera_beam {
+    uint16_t line;           /* at most 524 */
+    uint16_t position;       /* in its line, at most 799; visible pixel 0 is position 160 */
+    uint16_t copper_running; /* 0 or 1, 1 only while XR_COPP_CTRL bit 15 is set */
+    uint16_t copper_word;    /* of copper memory, that comes next; at most 1,023, 0 when stopped */
+} xosera_beam;
+
+/* The whole state of the adapter but for its memories: 79 words, flags and bytes too, and no
  * padding. It may be copied, kept and compared with memcmp: equal states are equal memory. Words
  * that no adapter can have, set by a test or in a handle that was never attached, are refused with
  * 3, never misread. */
-#define XOSERA_STATE_WORDS 75
+#define XOSERA_STATE_WORDS 79
 typedef struct xosera_state {
     xosera_host host;
     uint16_t queued; /* 0 or 1, 1 only while running: the blitter is full */
@@ -117,10 +126,13 @@ typedef struct xosera_state {
     xosera_engine engine;
     xosera_video video;
     xosera_blit_regs blit; /* as the host wrote them; a queued blit waits here */
+    xosera_beam beam;
 } xosera_state;
 
 /* A saved adapter as a file of bytes: contents, state, XR memory, VRAM; docs/SAVED.md has the
- * layout. Its length in bytes by the words of its VRAM, and the longest. */
+ * layout. It holds the state's words but those of the beam, which is at rest. Its length in bytes
+ * by the words of its VRAM, and the longest. */
+#define XOSERA_FILE_STATE_WORDS       75
 #define XOSERA_FILE_STATE_AT          28
 #define XOSERA_FILE_XR_AT             178
 #define XOSERA_FILE_VRAM_AT           13490
@@ -232,6 +244,10 @@ XOSERA_WORD(71, blit.dst_d);
 XOSERA_WORD(72, blit.shift);
 XOSERA_WORD(73, blit.lines);
 XOSERA_WORD(74, blit.words);
+XOSERA_WORD(75, beam.line);
+XOSERA_WORD(76, beam.position);
+XOSERA_WORD(77, beam.copper_running);
+XOSERA_WORD(78, beam.copper_word);
 
 XOSERA_SIZE(xosera_write_answer, 2);
 XOSERA_AT(xosera_write_answer, refusal, 0);
@@ -254,11 +270,15 @@ XOSERA_AT(xosera_save_answer, length, 8);
 XOSERA_SIZE(xosera_load_answer, 1);
 XOSERA_AT(xosera_load_answer, refusal, 0);
 
-XOSERA_ASSERT(XOSERA_FILE_XR_AT == XOSERA_FILE_STATE_AT + 2 * XOSERA_STATE_WORDS,
+XOSERA_ASSERT(offsetof(xosera_state, beam) == 2 * XOSERA_FILE_STATE_WORDS,
+              "a file holds the words before the beam");
+XOSERA_ASSERT(XOSERA_FILE_XR_AT == XOSERA_FILE_STATE_AT + 2 * XOSERA_FILE_STATE_WORDS,
               "XR memory follows the state in a file");
 XOSERA_ASSERT(XOSERA_FILE_VRAM_AT == XOSERA_FILE_XR_AT + 2 * XOSERA_XR_WORDS,
               "VRAM follows XR memory in a file");
 XOSERA_ASSERT(XOSERA_FILE_MAX == XOSERA_FILE_BYTES(XOSERA_VRAM_MAX), "the longest file");
+XOSERA_ASSERT(XOSERA_FRAME_STEPS == XOSERA_FRAME_LINES * XOSERA_LINE_POSITIONS,
+              "the steps of a frame");
 
 #ifdef __cplusplus
 extern "C" {
@@ -285,14 +305,18 @@ xosera_blit_answer xosera_blit_step(xosera_state *s, uint16_t *vram, size_t vram
 xosera_blit_answer xosera_blit_run(xosera_state *s, uint16_t *vram, size_t vram_len,
                                    const uint16_t *xr, size_t xr_len, uint64_t n);
 
-/* A tenth of a millisecond passes; the visible picture ends; is the interrupt line up? */
+/* A tenth of a millisecond passes; is the interrupt line up? */
 xosera_state_answer xosera_timer_tick(xosera_state *s);
-xosera_state_answer xosera_frame_end(xosera_state *s);
 xosera_line_answer xosera_interrupt_line(const xosera_state *s);
 
-/* Save the adapter to the first bytes of a room, which may be longer than the file; the bytes
- * behind the file stay as they were. Load the adapter that a file holds: any bytes that no adapter
- * saves are refused with 8. */
+/* The beam moves on by one native pixel; line 480 is the frame end, line 0 starts an enabled
+ * copper; then a running copper does one instruction. */
+xosera_state_answer xosera_beam_step(xosera_state *s, const uint16_t *vram, size_t vram_len,
+                                     uint16_t *xr, size_t xr_len);
+
+/* Save the adapter, beam and copper at rest, to the first bytes of a room, which may be longer than
+ * the file; the bytes behind the file stay as they were. Load the adapter that a file holds, beam
+ * and copper at rest: any bytes that no adapter saves are refused with 8. */
 xosera_save_answer xosera_save(const xosera_state *s, const uint16_t *vram, size_t vram_len,
                                const uint16_t *xr, size_t xr_len, uint8_t *room, size_t room_len);
 xosera_load_answer xosera_load(xosera_state *s, uint16_t *vram, size_t vram_len, uint16_t *xr,

@@ -20,7 +20,7 @@ typedef enum xosera_call {
     XOSERA_CALL_STEP,
     XOSERA_CALL_RUN,
     XOSERA_CALL_TICK,
-    XOSERA_CALL_FRAME_END,
+    XOSERA_CALL_BEAM_STEP,
     XOSERA_CALL_LINE,
     XOSERA_CALL_SAVE,
     XOSERA_CALL_LOAD
@@ -110,6 +110,7 @@ static inline const char *xosera_refusal_text(unsigned refusal)
     case XOSERA_NO_SAVED_ADAPTER: return "file is not a saved adapter";
     case XOSERA_SAVED_VRAM_LENGTH:
         return "VRAM of the saved adapter is not as long as the memory lent";
+    case XOSERA_NOT_AT_REST: return "beam and copper are not at rest";
     default: return "unknown refusal";
     }
 }
@@ -127,7 +128,7 @@ static inline const char *xosera_mask_text(unsigned mask)
 static inline void xosera_abort_on_refusal(xosera *x, const xosera_refused *what)
 {
     static const char *const calls[] = {"write",         "read",       "blit step",
-                                        "blit run",      "timer tick", "frame end",
+                                        "blit run",      "timer tick", "beam step",
                                         "line question", "save",       "load"};
     (void)x;
     if (what->file != NULL) {
@@ -165,7 +166,7 @@ static inline void xosera_note(xosera *x, uint8_t refusal, xosera_call call, uin
     }
 }
 
-/* Up to n words of blitting, one word, a tenth of a millisecond, the end of a frame, the line. */
+/* Up to n words of blitting, one word, a tenth of a millisecond, the line. */
 static inline uint64_t xosera_run(xosera *x, uint64_t n)
 {
     const xosera_blit_answer a =
@@ -190,17 +191,68 @@ static inline void xosera_tick(xosera *x)
     xosera_note(x, a.refusal, XOSERA_CALL_TICK, 0, false, 0);
 }
 
-static inline void xosera_frame(xosera *x)
-{
-    const xosera_state_answer a = xosera_frame_end(&x->state);
-    xosera_note(x, a.refusal, XOSERA_CALL_FRAME_END, 0, false, 0);
-}
-
 static inline bool xosera_line_up(xosera *x)
 {
     const xosera_line_answer a = xosera_interrupt_line(&x->state);
     xosera_note(x, a.refusal, XOSERA_CALL_LINE, 0, false, 0);
     return a.up;
+}
+
+/* The beam moves on by one native pixel, or by up to n; with each a running copper does one
+ * instruction. No byte is accessed, so the blitter gets no share. How many were done: fewer than
+ * asked for only where one was refused, which ends it. */
+static inline uint64_t xosera_beam_pixel(xosera *x)
+{
+    const xosera_state_answer a =
+        xosera_beam_step(&x->state, x->vram, x->vram_len, x->xr, x->xr_len);
+    xosera_note(x, a.refusal, XOSERA_CALL_BEAM_STEP, 0, false, 0);
+    return a.refusal == XOSERA_DONE ? 1 : 0;
+}
+
+static inline uint64_t xosera_beam_pixels(xosera *x, uint64_t n)
+{
+    uint64_t done = 0;
+    while (done < n && xosera_beam_pixel(x) != 0) {
+        done++;
+    }
+    return done;
+}
+
+/* Until the beam comes to this place, by one pixel at least and a whole frame at most. How many
+ * were done; 0, and the beam stays, where a frame has no such place or a pixel was refused. */
+static inline uint64_t xosera_beam_to(xosera *x, uint16_t line, uint16_t position)
+{
+    uint64_t done = 0;
+    if (line >= XOSERA_FRAME_LINES || position >= XOSERA_LINE_POSITIONS) {
+        return 0;
+    }
+    while (xosera_beam_pixel(x) != 0) {
+        done++;
+        if (x->state.beam.line == line && x->state.beam.position == position) {
+            break;
+        }
+    }
+    return done;
+}
+
+/* Until the next frame end: the beam reaches line 480. */
+static inline uint64_t xosera_frame(xosera *x)
+{
+    return xosera_beam_to(x, XOSERA_VISIBLE_LINES, 0);
+}
+
+/* Until vertical blanking begins, or ends (on the board: loops on SYS_CTRL_VBLANK_F). No pixel
+ * passes where it is so already; a refused one ends it. */
+static inline void xosera_wait_vblank(xosera *x)
+{
+    while (x->state.beam.line < XOSERA_VISIBLE_LINES && xosera_beam_pixel(x) != 0) {
+    }
+}
+
+static inline void xosera_wait_not_vblank(xosera *x)
+{
+    while (x->state.beam.line >= XOSERA_VISIBLE_LINES && xosera_beam_pixel(x) != 0) {
+    }
 }
 
 /* Words left in the running blit, the queued one not counted; 0 when idle. */
@@ -238,7 +290,7 @@ static inline void xosera_share(xosera *x)
     }
 }
 
-/* One byte, then the blitter's share. */
+/* One byte, then the blitter's share. The beam stays. */
 static inline void xosera_set_byte(xosera *x, uint8_t reg, bool odd, uint8_t byte)
 {
     const xosera_write_answer a =

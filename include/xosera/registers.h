@@ -1,6 +1,6 @@
 /*
  * Registers and bits: the numbers of the main registers, the addresses of the XR registers and
- * memories, the bits and fields of their words, and the sizes of the memories.
+ * memories, the bits and fields of their words, and the sizes of the memories and of the frame.
  */
 #ifndef XOSERA_MODEL_REGISTERS_H
 #define XOSERA_MODEL_REGISTERS_H
@@ -9,7 +9,7 @@
 
 /* Main registers: the number of the register, 0 to 15. (The board's own header has byte offsets,
  * four times these, because it adds them to an address.) */
-#define XM_SYS_CTRL  0x0 /* R/W   blitter full and busy; VRAM nibble mask */
+#define XM_SYS_CTRL  0x0 /* R/W   blitter full and busy, blanking; VRAM nibble mask */
 #define XM_INT_CTRL  0x1 /* R/W+  interrupt mask and status */
 #define XM_TIMER     0x2 /* R/W   timer; a write sets the countdown */
 #define XM_RD_XADDR  0x3 /* R/W+  XR address of the next read at XM_XDATA */
@@ -35,11 +35,17 @@
  * guards bits 15:12 of a VRAM word, bit 0 guards 3:0. */
 #define SYS_CTRL_BLIT_FULL_B  6
 #define SYS_CTRL_BLIT_BUSY_B  5
+#define SYS_CTRL_HBLANK_B     3 /* left blanking: the first 160 positions of every line */
+#define SYS_CTRL_VBLANK_B     2 /* from line 480 on */
 #define SYS_CTRL_BLIT_FULL_F  (1 << SYS_CTRL_BLIT_FULL_B)
 #define SYS_CTRL_BLIT_BUSY_F  (1 << SYS_CTRL_BLIT_BUSY_B)
+#define SYS_CTRL_HBLANK_F     (1 << SYS_CTRL_HBLANK_B)
+#define SYS_CTRL_VBLANK_F     (1 << SYS_CTRL_VBLANK_B)
 #define SYS_CTRL_WR_MASK_F    0x0F
 #define XM_SYS_CTRL_BLIT_FULL (SYS_CTRL_BLIT_FULL_F << 8)
 #define XM_SYS_CTRL_BLIT_BUSY (SYS_CTRL_BLIT_BUSY_F << 8)
+#define XM_SYS_CTRL_HBLANK    (SYS_CTRL_HBLANK_F << 8)
+#define XM_SYS_CTRL_VBLANK    (SYS_CTRL_VBLANK_F << 8)
 #define XM_SYS_CTRL_WR_MASK   SYS_CTRL_WR_MASK_F
 
 /* XM_INT_CTRL, bits of the word: enable (mask) in 14:8, pending (status) in 6:0. */
@@ -76,8 +82,8 @@
 #define INT_CTRL_AUD0_INTR_F  (1 << INT_CTRL_AUD0_INTR_B)
 #define INT_CTRL_CLEAR_ALL_F  0x007F
 
-/* XR registers: video and copper. All read back what was stored but XR_SCANLINE, which reads 0 and
- * whose write sets the video interrupt. 0x06 to 0x0F read 0 and drop writes. */
+/* XR registers: video and copper. All read back what was stored but XR_SCANLINE, which reads the
+ * beam's line and whose write sets the video interrupt. 0x06 to 0x0F read 0 and drop writes. */
 #define XR_VID_CTRL  0x00
 #define XR_COPP_CTRL 0x01
 #define XR_AUD_CTRL  0x02
@@ -97,6 +103,11 @@
 #define XR_FEATURES  0x09 /* names from the reference's summary table */
 #define XR_VID_HSIZE 0x0A
 #define XR_VID_VSIZE 0x0B
+
+/* XR_COPP_CTRL: the copper is enabled. It runs from the next time on that the beam reaches line 0;
+ * a write without the bit stops it at once. */
+#define COPP_CTRL_COPP_EN_B 15
+#define COPP_CTRL_COPP_EN_F (1 << COPP_CTRL_COPP_EN_B)
 
 /* XR registers: playfields A and B. XR_Px_LINE_ADDR is stored and reads 0. */
 #define XR_PA_GFX_CTRL  0x10
@@ -173,5 +184,13 @@
 #define XOSERA_XR_TILE_AT  0
 #define XOSERA_XR_COLOR_AT 5120
 #define XOSERA_XR_COPP_AT  5632
+
+/* The frame, in native pixels. A beam step is one position; visible pixel 0 is the position behind
+ * the blank ones. */
+#define XOSERA_LINE_POSITIONS  800
+#define XOSERA_BLANK_POSITIONS 160
+#define XOSERA_FRAME_LINES     525
+#define XOSERA_VISIBLE_LINES   480
+#define XOSERA_FRAME_STEPS     420000
 
 #endif /* XOSERA_MODEL_REGISTERS_H */

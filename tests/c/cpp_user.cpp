@@ -49,5 +49,17 @@ int cpp_user()
         own.refusals != 1) {
         return 6;
     }
-    return before->vram[0x20] == 0xC0DE ? 0 : 7;
+
+    // A copper list, over line 0 to its move on line 1.
+    static const uint32_t list[] = {COP_WAIT_V(1), COP_MOVER(0x0004, VID_CTRL), COP_END()};
+    if (!xosera_load_copper(&own, 0, list, 3)) {
+        return 7;
+    }
+    xosera_xr_setw(&own, XR_COPP_CTRL, COPP_CTRL_COPP_EN_F);
+    own.state.beam.line = XOSERA_FRAME_LINES - 1;
+    if (xosera_beam_to(&own, 1, 1) != 2 * XOSERA_LINE_POSITIONS + 1 ||
+        own.state.video.vid_ctrl != 0x0004 || own.state.beam.copper_word != 4) {
+        return 8;
+    }
+    return before->vram[0x20] == 0xC0DE ? 0 : 9;
 }

@@ -15,6 +15,8 @@ int main(void)
     failed += layout_group(&tests);
     failed += saved_group(&tests);
     failed += files_group(&tests);
+    failed += beam_group(&tests);
+    failed += copper_group(&tests);
     failed += api_group(&tests);
     printf("C tests: %d passed, %d failed\n", tests - failed, failed);
     return failed == 0 ? 0 : 1;

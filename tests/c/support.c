@@ -98,6 +98,29 @@ xosera_state mid_line_state(void)
     return s;
 }
 
+xosera_state copper_state(void)
+{
+    xosera_state s = mid_line_state();
+    s.video.copp_ctrl = 0x8765;
+    s.beam.line = 100;
+    s.beam.position = 200;
+    s.beam.copper_running = 1;
+    s.beam.copper_word = 10;
+    return s;
+}
+
+bool at_rest(const xosera_state *s)
+{
+    return s->beam.line == 0 && s->beam.position == 0 && s->beam.copper_running == 0 &&
+           s->beam.copper_word == 0;
+}
+
+void set_beam(xosera *x, uint16_t line, uint16_t position)
+{
+    x->state.beam.line = line;
+    x->state.beam.position = position;
+}
+
 bool words_in_range(const uint16_t *w)
 {
     bool bytes = w[28] <= 255, idle_engine = true;
@@ -113,7 +136,9 @@ bool words_in_range(const uint16_t *w)
     const bool engine = w[32] == 0 ? idle_engine
                                    : w[33] <= w[44] && w[34] <= w[45] && w[44] <= 32767 &&
                                          (w[34] != 0 || w[35] == 0);
-    return bytes && masks && countdown && flags && engine;
+    const bool beam = w[75] < 525 && w[76] < 800;
+    const bool copper = w[77] == 0 ? w[78] == 0 : w[77] == 1 && w[47] >= 0x8000 && w[78] < 1024;
+    return bytes && masks && countdown && flags && engine && beam && copper;
 }
 
 static uint16_t *copy_of(const uint16_t *words, size_t n)
@@ -168,8 +193,6 @@ static void assert_state_refused(const xosera_state *s)
     xosera_state t = *s;
     assert_int_equal(xosera_timer_tick(&t).refusal, XOSERA_STATE_RANGE);
     assert_state_equal(&t, s);
-    assert_int_equal(xosera_frame_end(&t).refusal, XOSERA_STATE_RANGE);
-    assert_state_equal(&t, s);
     const xosera_line_answer l = xosera_interrupt_line(&t);
     assert_int_equal(l.refusal, XOSERA_STATE_RANGE);
     assert_false(l.up);
@@ -204,6 +227,8 @@ void assert_refused(const xosera *x, const xosera_state *s, size_t vram_len, siz
         assert_blit_refused(xosera_blit_step(&t, x->vram, vram_len, x->xr, xr_len), want);
         assert_state_equal(&t, s);
         assert_blit_refused(xosera_blit_run(&t, x->vram, vram_len, x->xr, xr_len, 1000), want);
+        assert_state_equal(&t, s);
+        assert_int_equal(xosera_beam_step(&t, x->vram, vram_len, x->xr, xr_len).refusal, want);
         assert_state_equal(&t, s);
         assert_file_refused(x, s, vram_len, xr_len, want);
     }

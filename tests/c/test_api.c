@@ -82,7 +82,9 @@ static void waiting_lets_time_pass(void **state)
 {
     xosera *x = (xosera *)*state;
     xwait_mem_ready();
+    set_beam(x, 478, 300);
     xwait_not_vblank();
+    assert_int_equal(x->state.beam.position, 300); /* it is down: no time passes */
     assert_int_equal(xm_getbl(INT_CTRL), 0);
     xwait_vblank();
     assert_int_equal(xm_getbl(INT_CTRL), INT_CTRL_VIDEO_INTR_F);

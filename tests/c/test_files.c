@@ -216,9 +216,12 @@ static void a_refused_save_makes_no_file(void **state)
     t->x->vram_len = 255;
     assert_refusal(xosera_save_file(t->x, t->path), XOSERA_VRAM_LENGTH);
     t->x->vram_len = 256;
+    t->x->state.queued = 1;
+    t->x->state.beam.position = 1;
+    assert_refusal(xosera_save_file(t->x, t->path), XOSERA_NOT_AT_REST);
     assert_holds(t->path, old);
-    assert_int_equal(heard, 3 + 3 + 1);
-    assert_int_equal(t->x->refusals, 3);
+    assert_int_equal(heard, 3 + 3 + 1 + 10);
+    assert_int_equal(t->x->refusals, 4);
     assert_int_equal(t->x->first_refused.why, XOSERA_STATE_RANGE);
     assert_int_equal(t->x->first_refused.call, XOSERA_CALL_SAVE);
     adapter_free(old);

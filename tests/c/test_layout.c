@@ -31,6 +31,7 @@ static const field fields[] = {
     FIELD(video.pb[3]), FIELD(video.pb[4]), FIELD(video.pb[5]), FIELD(video.pb[6]),
     FIELD(blit.ctrl), FIELD(blit.andc), FIELD(blit.xor_), FIELD(blit.mod_s), FIELD(blit.src_s),
     FIELD(blit.mod_d), FIELD(blit.dst_d), FIELD(blit.shift), FIELD(blit.lines), FIELD(blit.words),
+    FIELD(beam.line), FIELD(beam.position), FIELD(beam.copper_running), FIELD(beam.copper_word),
 };
 /* clang-format on */
 enum { FIELDS = sizeof fields / sizeof fields[0] };
@@ -86,7 +87,7 @@ static void a_refused_call_leaves_every_word(void **state)
     assert_refused(x, &s, x->vram_len, x->xr_len, 3, XOSERA_STATE_RANGE);
 }
 
-/* Reset fills the 75 words and no other. */
+/* Reset fills the 79 words and no other. */
 static void reset_is_as_the_header_says(void **state)
 {
     (void)state;
@@ -124,6 +125,10 @@ static xosera_state in_range(void)
     s.engine.line = 0x0111;
     s.engine.word = 0x0222;
     s.engine.regs.ctrl = 0x3D20; /* VRAM source, no colour test */
+    s.beam.line = 0x0123;
+    s.beam.position = 0x0234;
+    s.beam.copper_running = 0;
+    s.beam.copper_word = 0;
     return s;
 }
 
@@ -267,10 +272,7 @@ static void timer_and_status_are_in_their_place(void **state)
     assert_int_equal(xosera_timer_tick(&s).refusal, XOSERA_DONE);
     assert_state_equal(&s, &want);
 
-    want.status |= INT_CTRL_VIDEO_INTR_F;
-    assert_int_equal(xosera_frame_end(&s).refusal, XOSERA_DONE);
-    assert_state_equal(&s, &want);
-
+    want.status = s.status |= INT_CTRL_VIDEO_INTR_F;
     want.host.int_mask = s.host.int_mask = INT_CTRL_VIDEO_INTR_F;
     xosera_line_answer l = xosera_interrupt_line(&s);
     assert_int_equal(l.refusal, XOSERA_DONE);
@@ -349,6 +351,9 @@ static void xr_registers_are_in_their_place(void **state)
         want.host.xr.rd_xaddr.word = xaddr;
         want.host.xr.rd_xdata =
             xr_field(&s, xaddr) != NULL && reads_back(xaddr) ? *xr_field(&s, xaddr) : 0;
+        if (xaddr == XR_SCANLINE) {
+            want.host.xr.rd_xdata = s.beam.line;
+        }
         expect_write(x, &s, XM_RD_XADDR, (uint8_t)xaddr, &want);
     }
 }
@@ -430,6 +435,33 @@ static void the_engine_draws_by_its_fields(void **state)
     assert_int_equal(x->vram[0x123], 0xFE11);
 }
 
+static void beam_and_copper_are_in_their_place(void **state)
+{
+    xosera *x = (xosera *)*state;
+    xosera_state s = in_range(), want = s;
+    want.beam.position++;
+    x->state = s;
+    assert_int_equal(xosera_beam_pixel(x), 1);
+    assert_state_equal(&x->state, &want);
+
+    set_beam(x, 479, 799);
+    want.beam.line = 480;
+    want.beam.position = 0;
+    want.status |= INT_CTRL_VIDEO_INTR_F;
+    assert_int_equal(xosera_beam_pixel(x), 1);
+    assert_state_equal(&x->state, &want);
+
+    /* The copper starts at line 0 and does its first instruction. */
+    x->xr[XOSERA_XR_COPP_AT] = 0xE000; /* passed over */
+    want.video.copp_ctrl = x->state.video.copp_ctrl |= COPP_CTRL_COPP_EN_F;
+    set_beam(x, 524, 799);
+    want.beam.line = want.beam.position = 0;
+    want.beam.copper_running = 1;
+    want.beam.copper_word = 2;
+    assert_int_equal(xosera_beam_pixel(x), 1);
+    assert_state_equal(&x->state, &want);
+}
+
 int layout_group(int *tests)
 {
     const struct CMUnitTest list[] = {
@@ -443,6 +475,7 @@ int layout_group(int *tests)
         WITH_ADAPTER(xr_registers_are_in_their_place),
         WITH_ADAPTER(the_engine_is_in_its_place),
         WITH_ADAPTER(the_engine_draws_by_its_fields),
+        WITH_ADAPTER(beam_and_copper_are_in_their_place),
     };
     return RUN_GROUP("layout", list, tests);
 }

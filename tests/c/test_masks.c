@@ -359,7 +359,7 @@ static void the_handle_keeps_the_last_mask(void **state)
     xm_setbh(DATA, 0x12);
     (void)vram_getw(PLACE);
     xosera_tick(x);
-    xosera_frame(x);
+    (void)xosera_beam_pixel(x);
     (void)xosera_line_up(x);
     xwait_blit_ready(); /* nothing is queued: no run */
     assert_int_equal(x->mask, 0x7);

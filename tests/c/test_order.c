@@ -4,7 +4,7 @@
 
 enum { VRAM_LEN = 512, WORDS = 5, LINES = 4, SOURCE = 0x20, TARGET = 0xC0, ELSEWHERE = 0x160 };
 
-typedef enum kind { WRITE, READ, TICK, FRAME_END, LINE } kind;
+typedef enum kind { WRITE, READ, TICK, PIXEL, LINE } kind;
 
 typedef struct event {
     kind what;
@@ -19,13 +19,16 @@ typedef struct event {
 #define R(reg)       {READ, reg, false, 0}, {READ, reg, true, 0}
 
 /* No event starts a blit, stores to a word that this one reads or writes, or loads one that it
- * writes. */
+ * writes, and none enables the copper. The beam starts two pixels before the frame end. */
 static const event events[] = {
     R(XM_SYS_CTRL), W(XM_SYS_CTRL, 0x000B), W(XM_WR_INCR, 0x0003), W(XM_WR_ADDR, ELSEWHERE),
     W(XM_DATA, 0x1234), W(XM_DATA_2, 0x5678), {TICK, 0, false, 0}, R(XM_INT_CTRL),
     W(XM_RD_INCR, 0xFFFF), W(XM_RD_ADDR, ELSEWHERE + 3), R(XM_DATA), R(XM_DATA_2),
     W(XM_RD_ADDR, SOURCE + 2), R(XM_DATA), /* reading what the blit reads is allowed */
-    {FRAME_END, 0, false, 0}, {LINE, 0, false, 0}, W(XM_INT_CTRL, 0x7F50), {LINE, 0, false, 0},
+    R(XM_SYS_CTRL), {PIXEL, 0, false, 0}, W(XM_RD_XADDR, XR_SCANLINE), R(XM_SYS_CTRL), R(XM_XDATA),
+    {PIXEL, 0, false, 0}, {LINE, 0, false, 0}, W(XM_INT_CTRL, 0x7F50), {LINE, 0, false, 0},
+    W(XM_RD_XADDR, XR_SCANLINE), R(XM_SYS_CTRL), R(XM_XDATA), {PIXEL, 0, false, 0},
+    W(XM_WR_XADDR, XR_COPP_CTRL), W(XM_XDATA, 0x7FFF), {PIXEL, 0, false, 0},
     W(XM_INT_CTRL, 0x8000), /* refused */
     {WRITE, 16, true, 1}, {READ, 200, false, 0}, /* refused */
     W(XM_WR_XADDR, XR_BLIT_CTRL), W(XM_XDATA, 0xFFFF), W(XM_XDATA, 0xFFFF), W(XM_XDATA, 0xFFFF),
@@ -52,7 +55,7 @@ static answer happen(xosera *x, event e)
     case WRITE: xosera_set_byte(x, e.reg, e.odd, e.byte); break;
     case READ: a.value = xosera_get_byte(x, e.reg, e.odd); break;
     case TICK: xosera_tick(x); break;
-    case FRAME_END: xosera_frame(x); break;
+    case PIXEL: a.value = (int)xosera_beam_pixel(x); break;
     case LINE: a.value = xosera_line_up(x); break;
     }
     a.refusal = (int)x->first_refused.why;
@@ -85,6 +88,7 @@ static void start(xosera *x)
                           .shift = 0x7C02,
                           .lines = LINES - 1,
                           .words = WORDS - 1});
+    set_beam(x, 479, 798);
 }
 
 /* `steps` words are done before every `every`-th event; what is left is done at the end. */

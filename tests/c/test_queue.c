@@ -6,28 +6,30 @@ static const blit four_words = {
 static const blit two_words = {
     .ctrl = 1, .src_s = 0x2222, .dst_d = 0x80, .shift = 0xFF00, .words = 1};
 
+enum { REST = SYS_CTRL_HBLANK_F }; /* what the flags show of a beam at rest */
+
 static void flags_follow_the_queue(void **state)
 {
     xosera *x = (xosera *)*state;
-    assert_int_equal(xm_getbh(SYS_CTRL), 0);
+    assert_int_equal(xm_getbh(SYS_CTRL), REST);
     start_blit(x, &four_words);
-    assert_int_equal(xm_getbh(SYS_CTRL), SYS_CTRL_BLIT_BUSY_F);
+    assert_int_equal(xm_getbh(SYS_CTRL), REST | SYS_CTRL_BLIT_BUSY_F);
     start_blit(x, &two_words);
-    assert_int_equal(xm_getbh(SYS_CTRL), SYS_CTRL_BLIT_BUSY_F | SYS_CTRL_BLIT_FULL_F);
+    assert_int_equal(xm_getbh(SYS_CTRL), REST | SYS_CTRL_BLIT_BUSY_F | SYS_CTRL_BLIT_FULL_F);
     for (int i = 0; i < 3; i++) {
         assert_int_equal(xosera_step(x), 1);
-        assert_int_equal(xm_getbh(SYS_CTRL), SYS_CTRL_BLIT_BUSY_F | SYS_CTRL_BLIT_FULL_F);
+        assert_int_equal(xm_getbh(SYS_CTRL), REST | SYS_CTRL_BLIT_BUSY_F | SYS_CTRL_BLIT_FULL_F);
         assert_int_equal(xm_getbl(INT_CTRL), 0);
     }
     /* The last word: the queued blit starts in the same step. */
     assert_int_equal(xosera_step(x), 1);
-    assert_int_equal(xm_getbh(SYS_CTRL), SYS_CTRL_BLIT_BUSY_F);
+    assert_int_equal(xm_getbh(SYS_CTRL), REST | SYS_CTRL_BLIT_BUSY_F);
     assert_int_equal(xm_getbl(INT_CTRL), INT_CTRL_BLIT_INTR_F);
     xm_setw(INT_CTRL, INT_CTRL_BLIT_INTR_F);
     assert_int_equal(x->vram[0x80], (uint16_t)(0x81 * 40503u));
     assert_int_equal(xosera_step(x), 1);
     assert_int_equal(xosera_step(x), 1);
-    assert_int_equal(xm_getbh(SYS_CTRL), 0);
+    assert_int_equal(xm_getbh(SYS_CTRL), REST);
     assert_int_equal(xm_getbl(INT_CTRL), INT_CTRL_BLIT_INTR_F);
     assert_int_equal(xosera_step(x), 0); /* idle: nothing, counted as nothing */
     assert_int_equal(xosera_run(x, 100), 0);
@@ -76,11 +78,11 @@ static void ready_waits_for_the_queue_alone(void **state)
     start_blit(x, &two_words);
     (void)xosera_step(x);
     xwait_blit_ready();
-    assert_int_equal(xm_getbh(SYS_CTRL), SYS_CTRL_BLIT_BUSY_F);
+    assert_int_equal(xm_getbh(SYS_CTRL), REST | SYS_CTRL_BLIT_BUSY_F);
     assert_int_equal(xosera_words_left(x), 2);
     start_blit(x, &four_words);
     xwait_blit_done();
-    assert_int_equal(xm_getbh(SYS_CTRL), 0);
+    assert_int_equal(xm_getbh(SYS_CTRL), REST);
     assert_int_equal(xosera_words_left(x), 0);
 }
 

@@ -1,4 +1,4 @@
-/* Refusal 3: each word that has a range, at its bounds and beyond. A state is 75 words that
+/* Refusal 3: each word that has a range, at its bounds and beyond. A state is 79 words that
  * anything may have filled, so no word out of range may be misread, by any call. */
 #include "tests.h"
 
@@ -51,6 +51,28 @@ static const range at_line_start[] = {
     RANGE(engine.kept, 0, 0),            RANGE(engine.regs.lines, 20, 32767),
     RANGE(engine.regs.words, 0, 65535),
 };
+
+/* With the copper stopped, enabled or not. */
+static const range while_enabled[] = {
+    RANGE(beam.line, 0, 524),         RANGE(beam.position, 0, 799),
+    RANGE(beam.copper_running, 0, 1), RANGE(beam.copper_word, 0, 0),
+};
+static const range while_disabled[] = {
+    RANGE(beam.line, 0, 524),         RANGE(beam.position, 0, 799),
+    RANGE(beam.copper_running, 0, 0), RANGE(beam.copper_word, 0, 0),
+};
+
+/* With the copper running, at word 0 and as set up by copper_state. */
+static const range at_word_0[] = {
+    RANGE(beam.line, 0, 524),         RANGE(beam.position, 0, 799),
+    RANGE(beam.copper_running, 0, 1), RANGE(beam.copper_word, 0, 1023),
+    RANGE(video.copp_ctrl, 0x8000, 0xFFFF),
+};
+static const range at_word_10[] = {
+    RANGE(beam.line, 0, 524),         RANGE(beam.position, 0, 799),
+    RANGE(beam.copper_running, 1, 1), RANGE(beam.copper_word, 0, 1023),
+    RANGE(video.copp_ctrl, 0x8000, 0xFFFF),
+};
 /* clang-format on */
 
 static xosera_state at_first_word(void)
@@ -62,15 +84,20 @@ static xosera_state at_first_word(void)
     return s;
 }
 
-/* A save gives a file from which a load gives this state. */
+/* A save gives a file from which a load gives this state, or 10. */
 static void assert_saved(const xosera *x, const xosera_state *s)
 {
     static uint8_t file[XOSERA_FILE_MAX];
     xosera_state t = *s;
     const xosera_save_answer saved =
         xosera_save(&t, x->vram, x->vram_len, x->xr, x->xr_len, file, sizeof file);
-    assert_int_equal(saved.refusal, XOSERA_DONE);
     assert_state_equal(&t, s);
+    if (!at_rest(s)) {
+        assert_int_equal(saved.refusal, XOSERA_NOT_AT_REST);
+        assert_int_equal(saved.length, 0);
+        return;
+    }
+    assert_int_equal(saved.refusal, XOSERA_DONE);
     t = reset_state();
     assert_int_equal(
         xosera_load(&t, x->vram, x->vram_len, x->xr, x->xr_len, file, saved.length).refusal,
@@ -78,7 +105,7 @@ static void assert_saved(const xosera *x, const xosera_state *s)
     assert_state_equal(&t, s);
 }
 
-/* All nine calls do their work, each on a copy of the state. */
+/* All calls but reset do their work, each on a copy of the state. */
 static void assert_accepted(const xosera *x, const xosera_state *s)
 {
     xosera_state t = *s;
@@ -93,7 +120,8 @@ static void assert_accepted(const xosera *x, const xosera_state *s)
     assert_state_equal(&t, s);
     assert_int_equal(xosera_timer_tick(&t).refusal, XOSERA_DONE);
     t = *s;
-    assert_int_equal(xosera_frame_end(&t).refusal, XOSERA_DONE);
+    assert_int_equal(xosera_beam_step(&t, x->vram, x->vram_len, x->xr, x->xr_len).refusal,
+                     XOSERA_DONE);
     t = *s;
     const xosera_blit_answer step = xosera_blit_step(&t, x->vram, x->vram_len, x->xr, x->xr_len);
     assert_int_equal(step.refusal, XOSERA_DONE);
@@ -117,8 +145,9 @@ static void set_word(xosera_state *s, size_t at, uint16_t value)
 }
 
 /* Values at which some width or sign could be mistaken, tried beside the bounds. */
-static const uint16_t telling[] = {0,   1,      2,      15,     16,     127,    128,    254,   255,
-                                   256, 0x0101, 0x7FFF, 0x8000, 0xFF00, 0xFF01, 0xFFFE, 0xFFFF};
+static const uint16_t telling[] = {0,      1,      2,      15,     16,     127,
+                                   128,    254,    255,    256,    512,    0x0101,
+                                   0x7FFF, 0x8000, 0xFF00, 0xFF01, 0xFFFE, 0xFFFF};
 enum { TELLING = sizeof telling / sizeof telling[0] };
 
 static void one_value(const xosera *x, xosera_state s, const range *r, uint16_t value)
@@ -173,13 +202,28 @@ static void a_running_engine_has_its_bounds(void **state)
     EVERY_BOUND(at_first_word(), at_line_start);
 }
 
+static void beam_and_copper_have_their_bounds(void **state)
+{
+    (void)state;
+    xosera_state s = idle_state();
+    assert_true(s.video.copp_ctrl >= 0x8000);
+    EVERY_BOUND(s, while_enabled);
+    s.video.copp_ctrl &= 0x7FFF;
+    EVERY_BOUND(s, while_disabled);
+    s = copper_state();
+    EVERY_BOUND(s, at_word_10);
+    s.beam.copper_word = 0;
+    EVERY_BOUND(s, at_word_0);
+}
+
 /* Every other word may hold anything. */
 static bool has_range(size_t at)
 {
-    const range *const lists[] = {bytes_and_masks, while_running};
+    const range *const lists[] = {bytes_and_masks, while_running, while_enabled};
     const size_t lengths[] = {sizeof bytes_and_masks / sizeof(range),
-                              sizeof while_running / sizeof(range)};
-    for (size_t i = 0; i < 2; i++) {
+                              sizeof while_running / sizeof(range),
+                              sizeof while_enabled / sizeof(range)};
+    for (size_t i = 0; i < 3; i++) {
         for (size_t n = 0; n < lengths[i]; n++) {
             if (lists[i][n].at == at) {
                 return true;
@@ -203,7 +247,7 @@ static void all_other_words_are_free(void **state)
             free_words++;
         }
     }
-    assert_int_equal(free_words, XOSERA_STATE_WORDS - 16 - 4 - 9);
+    assert_int_equal(free_words, XOSERA_STATE_WORDS - 16 - 4 - 9 - 4);
 }
 
 /* A handle that nobody attached, or a state from a file gone bad. */
@@ -221,7 +265,7 @@ static void a_handle_full_of_anything_is_refused(void **state)
         assert_int_equal(xosera_step(x), 0);
         assert_int_equal(xosera_run(x, 100), 0);
         xosera_tick(x);
-        xosera_frame(x);
+        assert_int_equal(xosera_frame(x), 0);
         assert_false(xosera_line_up(x));
         assert_int_equal(x->refusals, 9);
         assert_int_equal(x->first_refused.why, XOSERA_STATE_RANGE);
@@ -299,12 +343,12 @@ static void words_are_served_or_refused(const xosera *x, const uint16_t *words, 
 static void random_words_are_served_or_refused(void **state)
 {
     xosera *x = (xosera *)*state;
-    const xosera_state starts[] = {idle_state(), mid_line_state(), at_first_word()};
+    const xosera_state starts[] = {idle_state(), mid_line_state(), at_first_word(), copper_state()};
     uint16_t words[XOSERA_STATE_WORDS];
     int served = 0;
     for (int round = 0; round < 3000; round++) {
         const int damaged = round % 4; /* 0: all of them */
-        memcpy(words, &starts[round % 3], sizeof words);
+        memcpy(words, &starts[round / 8 % 4], sizeof words);
         for (int i = 0; i < (damaged == 0 ? XOSERA_STATE_WORDS : damaged); i++) {
             const int which = damaged == 0 ? i : random_word() % XOSERA_STATE_WORDS;
             words[which] = round % 8 < 4 ? random_word() : telling[random_word() % TELLING];
@@ -320,6 +364,7 @@ int ranges_group(int *tests)
         cmocka_unit_test(bytes_and_masks_have_their_bounds),
         cmocka_unit_test(an_idle_engine_is_all_0),
         cmocka_unit_test(a_running_engine_has_its_bounds),
+        cmocka_unit_test(beam_and_copper_have_their_bounds),
         WITH_ADAPTER(all_other_words_are_free),
         WITH_ADAPTER(a_handle_full_of_anything_is_refused),
         cmocka_unit_test(equal_states_are_equal_memory),

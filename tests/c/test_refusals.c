@@ -126,7 +126,8 @@ static void the_handle_keeps_the_first_refusal(void **state)
     (void)xosera_step(x);
     (void)xosera_run(x, 1);
     xosera_tick(x);
-    xosera_frame(x);
+    assert_int_equal(xosera_beam_pixel(x), 0);
+    assert_int_equal(x->last_refused.call, XOSERA_CALL_BEAM_STEP);
     assert_false(xosera_line_up(x));
     assert_int_equal(x->refusals, 5);
     assert_int_equal(x->first_refused.call, XOSERA_CALL_STEP);

@@ -106,7 +106,7 @@ static uint8_t *put_words(uint8_t *at, const uint16_t *words, size_t n)
 static size_t bytes_of(const xosera *x, int kind)
 {
     switch (kind) {
-    case 1: return 2 * XOSERA_STATE_WORDS;
+    case 1: return 2 * XOSERA_FILE_STATE_WORDS;
     case 2: return 2 * x->xr_len;
     case 3: return 2 * x->vram_len;
     default: return 2 * 256 - 9;
@@ -118,7 +118,7 @@ static uint8_t *put_body(uint8_t *at, const xosera *x, int kind)
     uint16_t state[XOSERA_STATE_WORDS];
     memcpy(state, &x->state, sizeof state);
     switch (kind) {
-    case 1: return put_words(at, state, XOSERA_STATE_WORDS);
+    case 1: return put_words(at, state, XOSERA_FILE_STATE_WORDS);
     case 2: return put_words(at, x->xr, x->xr_len);
     case 3: return put_words(at, x->vram, x->vram_len);
     default: return at + bytes_of(x, kind);
@@ -385,8 +385,8 @@ static void one_changed_file(xosera *into, bytes file, bool right_contents, byte
     static const xosera_state before; /* all words 0 */
     uint16_t *const ends[4] = {&into->vram[0], &into->vram[into->vram_len - 1], &into->xr[0],
                                &into->xr[into->xr_len - 1]};
-    uint16_t words[XOSERA_STATE_WORDS];
-    for (size_t i = 0; i < XOSERA_STATE_WORDS; i++) {
+    uint16_t words[XOSERA_STATE_WORDS] = {0}; /* a load gives rest */
+    for (size_t i = 0; i < XOSERA_FILE_STATE_WORDS; i++) {
         words[i] = (uint16_t)(file.at[28 + 2 * i] << 8 | file.at[29 + 2 * i]);
     }
     into->state = before;

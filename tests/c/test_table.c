@@ -145,7 +145,8 @@ static void run_goes_on_into_the_queued_blit(void **state)
     start_blit(x, &(blit){.dst_d = 0x80, .shift = 0xFF00, .words = 2});
     start_blit(x, &(blit){.dst_d = 0x90, .shift = 0xFF00, .words = 1});
     assert_int_equal(xosera_run(x, 4), 4);
-    assert_int_equal(xm_getw(SYS_CTRL), XM_SYS_CTRL_BLIT_BUSY | XM_SYS_CTRL_WR_MASK);
+    assert_int_equal(xm_getw(SYS_CTRL),
+                     XM_SYS_CTRL_BLIT_BUSY | XM_SYS_CTRL_HBLANK | XM_SYS_CTRL_WR_MASK);
     assert_int_equal(xm_getbl(INT_CTRL), INT_CTRL_BLIT_INTR_F);
 }
 

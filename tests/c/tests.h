@@ -44,11 +44,15 @@ void assert_state_equal(const xosera_state *got, const xosera_state *want);
 /* The same for state and memories. */
 void assert_adapter_equal(const xosera *got, const xosera *want);
 
-/* The state after reset; one that is idle, with no free word 0; one in mid-line with a blit queued.
- */
+/* The state after reset; one that is idle, with no free word 0; one in mid-line with a blit queued;
+ * the same with the beam in the picture and the copper running. All but the last are at rest. */
 xosera_state reset_state(void);
 xosera_state idle_state(void);
 xosera_state mid_line_state(void);
+xosera_state copper_state(void);
+
+/* Beam and copper are at rest. */
+bool at_rest(const xosera_state *s);
 
 /* The ranges once more, by the numbers of the words alone. */
 bool words_in_range(const uint16_t *words);
@@ -65,6 +69,9 @@ typedef struct blit {
 } blit;
 void start_blit(xosera *x, const blit *b);
 
+/* The beam stands here, by hand. */
+void set_beam(xosera *x, uint16_t line, uint16_t position);
+
 /* One test file is one group. Each returns the number of tests that failed. */
 int table_group(int *tests);
 int rules_group(int *tests);
@@ -77,6 +84,8 @@ int order_group(int *tests);
 int layout_group(int *tests);
 int saved_group(int *tests);
 int files_group(int *tests);
+int beam_group(int *tests);
+int copper_group(int *tests);
 int api_group(int *tests);
 
 #define RUN_GROUP(name, list, count)                                                               \
