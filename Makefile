@@ -3,6 +3,7 @@
 #   make lib         prove the Rattle crates and build the library
 #   make example     draw the cross, and the cross with last spring's fault
 #   make boot        boot once and save the adapter, then load it instead
+#   make border      change the border in mid-frame by a copper list, and by one that waits for a wrong line
 #   make test-c      the C tests: each header alone; all tests plain, under ASan and UBSan, under valgrind;
 #                    the examples, those of docs/ too
 #   make test-rust   the library against a plain Rust model, call by call;
@@ -24,7 +25,7 @@ export XOSERA_LIB_DIR
 WARN     := -Wall -Wextra -Wpedantic -Werror
 CFLAGS   := -std=c11 -O1 -gdwarf-4 $(WARN) -Iinclude
 CXXFLAGS := -std=c++17 -O1 -gdwarf-4 $(WARN) -Iinclude
-# With XOSERA_QUICK the test that changes each byte of a file takes fewer values.
+# With XOSERA_QUICK the test that changes each byte of a file takes fewer values, and two of the beam fewer lines.
 VALGRIND := XOSERA_QUICK=1 valgrind -q --error-exitcode=9 --leak-check=full --errors-for-leak-kinds=all
 SANITIZE := -fsanitize=address,undefined -fno-sanitize-recover=all
 
@@ -34,7 +35,7 @@ TESTS_CPP := $(wildcard tests/c/*.cpp)
 TESTS_H   := $(HEADER) $(wildcard tests/c/*.h)
 OBJECTS    = $(TESTS_C:tests/c/%.c=build/$(1)/%.o) $(TESTS_CPP:tests/c/%.cpp=build/$(1)/%.o)
 
-.PHONY: all lib example boot test test-c test-headers test-rust bench clean
+.PHONY: all lib example boot border test test-c test-headers test-rust bench clean
 all: lib example
 
 # rt does nothing where no crate has changed since it was last proved.
@@ -54,9 +55,14 @@ boot: build/boot
 	build/boot build/boot.saved
 	build/boot build/boot.saved
 
+border: build/border
+	build/border
+
 build/cross: examples/cross/cross.c $(HEADER) $(LIB) | build
 	@echo "  cc $<"; $(CC) $(CFLAGS) -o $@ $< $(LIB)
 build/boot: examples/boot/boot.c $(HEADER) $(LIB) | build
+	@echo "  cc $<"; $(CC) $(CFLAGS) -o $@ $< $(LIB)
+build/border: examples/border/border.c $(HEADER) $(LIB) | build
 	@echo "  cc $<"; $(CC) $(CFLAGS) -o $@ $< $(LIB)
 
 test: test-c test-rust
@@ -64,8 +70,8 @@ test: test-c test-rust
 # Runs $(1) and prints its last line, or all that did not go well.
 run_tests = $(1) >$(2) 2>&1 || { grep -v -e ' RUN ' -e ' OK ' $(2); exit 1; }; tail -n 1 $(2)
 
-test-c: test-headers build/plain/tests build/sanitized/tests build/cross build/boot build/first_test \
-	    build/calls
+test-c: test-headers build/plain/tests build/sanitized/tests build/cross build/boot build/border \
+	    build/first_test build/calls
 	@printf 'plain: '
 	@$(call run_tests,build/plain/tests,build/plain/log)
 	@printf 'AddressSanitizer and UBSan: '
@@ -77,6 +83,8 @@ test-c: test-headers build/plain/tests build/sanitized/tests build/cross build/b
 	@build/cross -s -f | diff examples/cross/fault_steps.txt -
 	@build/cross -f -s | diff examples/cross/fault_steps.txt -
 	@echo "examples/cross shows fault and single steps as in its fault.txt, steps.txt and fault_steps.txt"
+	@build/border | diff examples/border/border.txt -
+	@echo "examples/border changes the border where its border.txt says"
 	@rm -f build/quick.saved
 	@printf 'examples/boot: '
 	@$(call run_tests,{ build/boot build/quick.saved 1 && build/boot build/quick.saved 1; },build/boot.log)
@@ -125,7 +133,7 @@ build build/plain build/sanitized:
 test-rust: $(LIB) | build
 	@(cd tests/rust && cargo test --release -- --nocapture) >build/rust.log 2>&1 || \
 	    { cat build/rust.log; exit 1; }
-	@grep -e '^masks' -e '^order' -e '^random calls' -e '^saved' -e '^  [a-zA-Z]' build/rust.log
+	@grep -e '^copper' -e '^masks' -e '^order' -e '^random calls' -e '^saved' -e '^  [a-zA-Z]' build/rust.log
 	@awk '/^test result/ { n += $$4 } END { print "Rust tests: " n " passed, 0 failed" }' build/rust.log
 
 bench: $(LIB)
