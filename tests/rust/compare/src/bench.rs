@@ -9,6 +9,7 @@
 use std::time::Instant;
 
 use compare::convert::{typed, words};
+use compare::copper::{instruction, position, ENABLED, JMP, MOVEC, MOVER, PROGRAM_AT, WAIT};
 use xosera::{
     saved_bytes, BlitAnswer, LineAnswer, LoadAnswer, ReadAnswer, SaveAnswer, StateAnswer,
     WriteAnswer,
@@ -30,7 +31,7 @@ const NARROW: [u16; 2] = [32767, 1];
 const CALLS: u64 = 4096;
 
 /// The words of a file: state, XR memory and VRAM.
-const FILE_WORDS: u64 = (xosera::STATE_WORDS + xosera::XR_WORDS + VRAM_WORDS) as u64;
+const FILE_WORDS: u64 = (xosera::SAVED_STATE_WORDS + xosera::XR_WORDS + VRAM_WORDS) as u64;
 
 /// A side's nine calls, on a state of type `S`.
 #[derive(Clone, Copy)]
@@ -42,7 +43,7 @@ struct Calls<S> {
     blit_step: unsafe extern "C" fn(*mut S, *mut u16, usize, *const u16, usize) -> BlitAnswer,
     blit_run: unsafe extern "C" fn(*mut S, *mut u16, usize, *const u16, usize, u64) -> BlitAnswer,
     timer_tick: unsafe extern "C" fn(*mut S) -> StateAnswer,
-    frame_end: unsafe extern "C" fn(*mut S) -> StateAnswer,
+    beam_step: unsafe extern "C" fn(*mut S, *const u16, usize, *mut u16, usize) -> StateAnswer,
     interrupt_line: unsafe extern "C" fn(*const S) -> LineAnswer,
     save: unsafe extern "C" fn(
         *const S,
@@ -70,7 +71,7 @@ const LIBRARY: Calls<xosera::State> = Calls {
     blit_step: xosera::ffi::xosera_blit_step,
     blit_run: xosera::ffi::xosera_blit_run,
     timer_tick: xosera::ffi::xosera_timer_tick,
-    frame_end: xosera::ffi::xosera_frame_end,
+    beam_step: xosera::ffi::xosera_beam_step,
     interrupt_line: xosera::ffi::xosera_interrupt_line,
     save: xosera::ffi::xosera_save,
     load: xosera::ffi::xosera_load,
@@ -82,7 +83,7 @@ const PLAIN: Calls<model::State> = Calls {
     blit_step: plain::blit_step,
     blit_run: plain::blit_run,
     timer_tick: plain::timer_tick,
-    frame_end: plain::frame_end,
+    beam_step: plain::beam_step,
     interrupt_line: plain::interrupt_line,
     save: plain::save,
     load: plain::load,
@@ -183,8 +184,16 @@ mod plain {
     }
 
     #[inline(never)]
-    pub unsafe extern "C" fn frame_end(s: *mut State) -> StateAnswer {
-        let (refusal, ()) = said((*s).frame_end());
+    pub unsafe extern "C" fn beam_step(
+        s: *mut State,
+        vram: *const u16,
+        vram_len: usize,
+        xr: *mut u16,
+        xr_len: usize,
+    ) -> StateAnswer {
+        let vram = from_raw_parts(vram, vram_len);
+        let xr = from_raw_parts_mut(xr, xr_len);
+        let (refusal, ()) = said((*s).beam_step(vram, xr));
         StateAnswer { refusal }
     }
 
@@ -350,36 +359,16 @@ impl Work for Ticks {
     }
 }
 
-struct FrameEnds;
+/// Beam steps.
+struct Beam;
 
-impl Work for FrameEnds {
+impl Work for Beam {
     fn done_by<S>(&self, m: &mut Side<S>) -> u64 {
+        let (v, vn, x, xn) = (m.vram.as_ptr(), m.vram.len(), m.xr.as_mut_ptr(), m.xr.len());
         let mut refused = 0;
         for _ in 0..CALLS {
-            refused += u64::from(unsafe { (m.calls.frame_end)(&mut m.state).refusal });
-        }
-        refused
-    }
-}
-
-/// Frame ends, each cleared by an odd write to `XM_INT_CTRL`.
-struct FrameEndsCleared;
-
-impl Work for FrameEndsCleared {
-    fn done_by<S>(&self, m: &mut Side<S>) -> u64 {
-        let (v, vn, x, xn) = (
-            m.vram.as_mut_ptr(),
-            m.vram.len(),
-            m.xr.as_mut_ptr(),
-            m.xr.len(),
-        );
-        let mut refused = 0;
-        for _ in 0..CALLS / 2 {
-            let ended = unsafe { (m.calls.frame_end)(&mut m.state) };
-            let cleared = unsafe {
-                (m.calls.write_byte)(&mut m.state, v, vn, x, xn, xosera::XM_INT_CTRL, true, 0x10)
-            };
-            refused += u64::from(ended.refusal) + u64::from(cleared.refusal);
+            let a = unsafe { (m.calls.beam_step)(&mut m.state, v, vn, x, xn) };
+            refused += u64::from(a.refusal);
         }
         refused
     }
@@ -524,11 +513,9 @@ fn main() {
     bytes(&x);
     compare("timer ticks", "Mcalls/s", CALLS, &x, Ticks);
     compare("ticks and even reads", "Mcalls/s", CALLS, &x, TicksRead);
-    compare("frame ends", "Mcalls/s", CALLS, &x, FrameEnds);
-    let cleared = "frame ends and their clears";
-    compare(cleared, "Mcalls/s", CALLS, &x, FrameEndsCleared);
+    beam_steps(&x);
     let mut up = x;
-    up.frame_end().expect("a frame end that is done");
+    up.write_xr(0x03, 0).expect("a word that sets status bit 4");
     compare("interrupt line questions", "Mcalls/s", CALLS, &up, Lines);
 
     let file = busy.saved().expect("an adapter that calls left");
@@ -558,6 +545,25 @@ fn blits() -> xosera::Adapter {
     }
     let [_, (_, busy), _] = blits;
     busy
+}
+
+/// Beam steps from line 100 on, a few lines, with the copper off and with it in each of these programs.
+fn beam_steps(x: &xosera::Adapter) {
+    let mut x = x.clone();
+    x.state.beam.line = 100;
+    compare("beam steps, copper off", "Mcalls/s", CALLS, &x, Beam);
+    let back = instruction(JMP, 0, 0);
+    for (name, [first, second]) in [
+        ("in a WAIT", [position(WAIT, 400, 0, 0), back]),
+        ("MOVER and JMP", [instruction(MOVER, 0x00, 0x1234), back]),
+        ("MOVEC and JMP", [instruction(MOVEC, 1000, 0x1234), back]),
+    ] {
+        x.xr[PROGRAM_AT..][..4].copy_from_slice(&[first, second].concat());
+        x.state.video.copp_ctrl = ENABLED;
+        x.state.beam.copper_running = 1;
+        let name = format!("beam steps, {}", name);
+        compare(&name, "Mcalls/s", CALLS, &x, Beam);
+    }
 }
 
 /// Byte writes and reads.

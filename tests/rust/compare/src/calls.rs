@@ -1,8 +1,11 @@
-//! Random calls, chosen so that blits start, overlap, wrap, queue and get refused all the time.
+//! Random calls, chosen so that blits start, overlap, wrap, queue and get refused all the time, and that
+//! the beam is near its edges and the copper runs.
 
 use std::collections::VecDeque;
 
 use crate::convert::{typed, Words, NARROW};
+use crate::copper::{any_beam, any_copper_word, any_instruction};
+use crate::copper::{BLANK, ENABLED, LINES, POSITIONS, VISIBLE};
 use crate::pair::{Call, Lent};
 use crate::random::Random;
 use crate::settings::seed;
@@ -23,6 +26,9 @@ const MOST_LINES: u16 = 32767;
 
 /// Words that a run may have to do at most.
 const LONGEST_RUN: u64 = 20_000;
+
+/// Planned beam steps of which it is not settled how many they are.
+const MANY: u64 = 0;
 
 /// The source of calls: what is planned, with loose calls in between.
 pub struct Calls {
@@ -58,8 +64,11 @@ impl Calls {
             self.plan(s);
         }
         match self.planned.pop_front() {
-            // How far a run goes is settled now, by what is left.
+            // How far a run or the beam goes is settled now, by what is left.
             Some(Call::Run { .. }) => Call::Run { n: self.steps(s) },
+            Some(Call::Beam { steps: MANY }) => Call::Beam {
+                steps: self.beam_steps(s),
+            },
             Some(call) => call,
             None => self.loose(s),
         }
@@ -93,7 +102,7 @@ impl Calls {
             0..=2 => Call::Step,
             3 => Call::Run { n: self.steps(s) },
             4 => Call::Tick,
-            5 => Call::FrameEnd,
+            5 => Call::Beam { steps: 1 },
             6 | 7 => Call::Line,
             8..=11 => Call::Read {
                 reg: self.register(),
@@ -142,6 +151,22 @@ impl Calls {
         }
     }
 
+    /// A number of beam steps: few, or those to the first visible pixel, to the next line, or to line
+    /// 480 or 0 where that is near; one more or less.
+    fn beam_steps(&mut self, s: &xosera::State) -> u64 {
+        let (line, position) = (s.beam.line, s.beam.position);
+        let lines = [VISIBLE, LINES].map(|edge| edge.saturating_sub(line));
+        let lines = lines.into_iter().find(|n| (1..10).contains(n));
+        let to_line = u64::from(POSITIONS.saturating_sub(position));
+        let steps = match self.random.below(4) {
+            0 => u64::from(BLANK.saturating_sub(position)),
+            1 => to_line,
+            2 => to_line + u64::from(POSITIONS) * u64::from(lines.unwrap_or(2) - 1),
+            _ => self.random.below(100),
+        };
+        (steps + self.random.below(3)).saturating_sub(1).max(1)
+    }
+
     /// A word that is often at an edge.
     fn word(&mut self) -> u16 {
         match self.random.below(8) {
@@ -177,7 +202,7 @@ impl Calls {
         if s.engine.running != 0 && !self.random.one_in(busy) {
             return self.plan_steps();
         }
-        match self.random.below(15) {
+        match self.random.below(20) {
             0 => {
                 let (reg, word) = (self.register(), self.word());
                 self.put(reg, word);
@@ -199,6 +224,9 @@ impl Calls {
                 self.plan_blit();
                 self.plan_touch_full();
             }
+            14..=15 => self.plan_beam(),
+            16 => self.plan_copper_control(),
+            17..=18 => self.plan_program(s),
             _ => self.plan_steps(),
         }
     }
@@ -394,10 +422,64 @@ impl Calls {
 
     fn plan_steps(&mut self) {
         for _ in 0..self.random.below(8) {
-            self.planned.push_back(Call::Step);
+            let call = match self.random.below(3) {
+                0 => Call::Beam { steps: 1 },
+                _ => Call::Step,
+            };
+            self.planned.push_back(call);
         }
         if self.random.flip() {
             self.planned.push_back(Call::Run { n: 0 });
+        }
+    }
+
+    /// Beam steps, singly and many at once, and what the host sees of the beam.
+    fn plan_beam(&mut self) {
+        if self.random.flip() {
+            self.planned.push_back(Call::Beam { steps: MANY });
+        }
+        for _ in 0..self.random.below(12) {
+            self.planned.push_back(Call::Beam { steps: 1 });
+        }
+        if self.random.flip() {
+            self.get(0);
+            self.put(3, 0x03);
+            self.get(5);
+        }
+    }
+
+    /// `XR_COPP_CTRL`, mostly with bit 15 set.
+    fn plan_copper_control(&mut self) {
+        let word = match self.random.below(4) {
+            0 => self.word(),
+            _ => self.word() | ENABLED,
+        };
+        self.put(4, 0x01);
+        self.put(5, word);
+        self.plan_beam();
+    }
+
+    /// Instructions into copper memory, often where the copper goes on.
+    fn plan_program(&mut self, s: &xosera::State) {
+        let at = match self.random.flip() {
+            true => s.beam.copper_word % 1024,
+            false => any_copper_word(&mut self.random),
+        };
+        self.put(4, 0xC000 + at);
+        let mut line = s.beam.line % LINES;
+        for _ in 0..1 + self.random.below(5) {
+            for word in any_instruction(&mut self.random, &mut line) {
+                self.put(5, word);
+            }
+        }
+        self.plan_beam();
+    }
+
+    /// Some state within its ranges, beam and copper at rest.
+    pub fn state_at_rest(&mut self) -> xosera::State {
+        xosera::State {
+            beam: xosera::Beam::default(),
+            ..self.state_in_range()
         }
     }
 
@@ -445,6 +527,10 @@ impl Calls {
             s.engine = xosera::Engine::default();
             s.queued = 0;
         }
+        if s.video.copp_ctrl & ENABLED == 0 || s.beam.copper_running == 0 {
+            s.beam.copper_running = 0;
+            s.beam.copper_word = 0;
+        }
         s
     }
 
@@ -452,7 +538,7 @@ impl Calls {
     pub fn state_out_of_range(&mut self, s: xosera::State) -> xosera::State {
         let mut s = s;
         let r = &mut self.random;
-        match r.below(20) {
+        match r.below(25) {
             0 => s.host.vram.wr_mask |= r.pick(&[16, 32, 64, 128]),
             1 => s.host.int_mask |= 128,
             2 => s.status |= 128,
@@ -516,6 +602,21 @@ impl Calls {
                 s = self.damaged(s);
                 s = self.damaged(s);
             }
+            16 => s.beam.line = r.pick(&[LINES, LINES + 1, 0x8000, 0xFFFF]),
+            17 => s.beam.position = r.pick(&[POSITIONS, POSITIONS + 1, 0x8000, 0xFFFF]),
+            18 => {
+                s.video.copp_ctrl &= !ENABLED;
+                s.beam.copper_running = 1;
+            }
+            19 => {
+                s.video.copp_ctrl |= ENABLED;
+                s.beam.copper_running = 1;
+                s.beam.copper_word = r.pick(&[1024, 1025, 2047, 0x8000, 0xFFFF]);
+            }
+            20 => {
+                s.beam.copper_running = 0;
+                s.beam.copper_word = 1 << r.below(16);
+            }
             _ => s = self.damaged(s),
         }
         s
@@ -572,7 +673,7 @@ impl Calls {
             *latch = u16::from(r.byte());
         }
         s.video.vid_ctrl = r.word();
-        s.video.copp_ctrl = r.word();
+        s.video.copp_ctrl = r.word() | if r.flip() { ENABLED } else { 0 };
         s.video.aud_ctrl = r.word();
         s.video.vid_left = r.word();
         s.video.vid_right = r.word();
@@ -587,6 +688,9 @@ impl Calls {
         s.engine.regs = any_blit(r);
         s.queued = u16::from(r.flip());
         s.status = u16::from(r.byte());
+        s.beam = any_beam(r);
+        s.beam.copper_running = u16::from(r.flip());
+        s.beam.copper_word = any_copper_word(r);
         s
     }
 }

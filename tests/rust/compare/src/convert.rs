@@ -6,7 +6,7 @@ use xosera::STATE_WORDS;
 pub type Words = [u16; STATE_WORDS];
 
 /// The words by name, in their order, and how many each name has.
-const NAMES: [(&str, usize); 38] = [
+const NAMES: [(&str, usize); 42] = [
     ("latch", 16),
     ("rd_xaddr", 1),
     ("wr_xaddr", 1),
@@ -45,20 +45,25 @@ const NAMES: [(&str, usize); 38] = [
     ("vid_right", 1),
     ("playfields", 14),
     ("blit", 10),
+    ("beam_line", 1),
+    ("beam_position", 1),
+    ("copper_running", 1),
+    ("copper_word", 1),
 ];
 
 /// The words that are a byte (latches, nibble mask, saved timer byte, interrupt mask and status) or a
-/// flag (queued, running).
-pub const NARROW: [usize; 22] = [
-    0, 1, 2, 3, 4, 5, 6, 7, 8, 9, 10, 11, 12, 13, 14, 15, 24, 28, 29, 31, QUEUED, RUNNING,
+/// flag (queued, running, copper running).
+pub const NARROW: [usize; 23] = [
+    0, 1, 2, 3, 4, 5, 6, 7, 8, 9, 10, 11, 12, 13, 14, 15, 24, 28, 29, 31, QUEUED, RUNNING, COPPER,
 ];
 const QUEUED: usize = 30;
 const RUNNING: usize = 32;
+const COPPER: usize = 77;
 
 /// Does the word fit its byte or flag, if it is one?
 pub fn fits(number: usize, word: u16) -> bool {
     match number {
-        QUEUED | RUNNING => word <= 1,
+        QUEUED | RUNNING | COPPER => word <= 1,
         _ => word <= 255 || !NARROW.contains(&number),
     }
 }
@@ -102,6 +107,10 @@ pub fn typed(w: &Words) -> Option<State> {
         copied: to_blit(&w[36..46]),
         xreg,
         blit: to_blit(&w[65..75]),
+        beam_line: w[75],
+        beam_position: w[76],
+        copper_running: w[COPPER] == 1,
+        copper_word: w[78],
     })
 }
 
@@ -137,6 +146,10 @@ pub fn words(s: &State) -> Words {
     w[51..58].copy_from_slice(&s.xreg[0x10..0x17]);
     w[58..65].copy_from_slice(&s.xreg[0x18..0x1F]);
     w[65..75].copy_from_slice(&of_blit(&s.blit));
+    w[75] = s.beam_line;
+    w[76] = s.beam_position;
+    w[COPPER] = u16::from(s.copper_running);
+    w[78] = s.copper_word;
     w
 }
 

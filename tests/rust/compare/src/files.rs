@@ -170,9 +170,9 @@ fn damaged(calls: &mut Calls, kind: Kind, file: Vec<u8>) -> Vec<u8> {
     }
 }
 
-/// The file of some adapter in range with so many words of VRAM, by the model.
+/// The file of some adapter at rest with so many words of VRAM, by the model.
 pub fn another(calls: &mut Calls, vram: usize) -> Vec<u8> {
-    let s = calls.state_in_range();
+    let s = calls.state_at_rest();
     let vram = any_words(calls, vram);
     let xr = any_words(calls, XR_WORDS);
     let mut file = vec![0; saved_bytes(vram.len())];

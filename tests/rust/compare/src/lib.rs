@@ -2,6 +2,7 @@
 
 pub mod calls;
 pub mod convert;
+pub mod copper;
 pub mod files;
 pub mod masks;
 pub mod pair;

@@ -3,10 +3,11 @@
 use std::fmt;
 
 use crate::convert::{differences, misfit, typed, words, Words};
+use crate::copper::{any_program, PROGRAM_AT};
 use crate::random::Random;
 
-/// A call with its arguments. A save and a load, which are lent a room or a file too, are functions of
-/// [`Pair`].
+/// A call with its arguments, or so many beam steps, at least one, one after another. A save and a load,
+/// which are lent a room or a file too, are functions of [`Pair`].
 #[derive(Clone, Copy, Debug, PartialEq, Eq)]
 pub enum Call {
     Reset,
@@ -15,7 +16,7 @@ pub enum Call {
     Step,
     Run { n: u64 },
     Tick,
-    FrameEnd,
+    Beam { steps: u64 },
     Line,
 }
 
@@ -129,7 +130,8 @@ impl Pair {
         }
     }
 
-    /// Fill both sides alike, with few different nibbles, so that colours often match.
+    /// Fill both sides alike, with few different nibbles, so that colours often match, and with a copper
+    /// program or any words.
     pub fn fill(&mut self, random: &mut Random) {
         let palette = [0, 0, random.word() & 0xF, random.word() & 0xF, 0xA, 0xF];
         for word in self.library_vram.words.iter_mut() {
@@ -144,6 +146,21 @@ impl Pair {
         }
         self.model_vram.words.clone_from(&self.library_vram.words);
         self.model_xr.words.clone_from(&self.library_xr.words);
+        if random.flip() {
+            self.put_xr(PROGRAM_AT, &any_program(random));
+        }
+    }
+
+    /// XR memory as it stands on both sides.
+    pub fn xr(&self) -> &[u16] {
+        &self.library_xr.words[MARGIN..]
+    }
+
+    /// Put these words in XR memory on both sides.
+    pub fn put_xr(&mut self, at: usize, words: &[u16]) {
+        for memory in [&mut self.library_xr, &mut self.model_xr] {
+            memory.words[MARGIN + at..][..words.len()].copy_from_slice(words);
+        }
     }
 
     /// Do one call on both sides. Every word of the state, answer, mask, refusal and every word of both
@@ -256,7 +273,7 @@ impl Pair {
         }
     }
 
-    /// The file of a state in range with so many words of VRAM, by the model.
+    /// The file of a state in range and at rest with so many words of VRAM, by the model.
     pub fn file(&mut self, s: xosera::State, vram: usize) -> Vec<u8> {
         let mut file = vec![0; xosera::saved_bytes(vram)];
         let vram = self.model_vram.lent(vram);
@@ -322,7 +339,10 @@ impl Pair {
             Call::Step => s.blit_step(vram, xr).map(blitted),
             Call::Run { n } => s.blit_run(vram, xr, n).map(blitted),
             Call::Tick => s.timer_tick().map(|()| (0, 0)),
-            Call::FrameEnd => s.frame_end().map(|()| (0, 0)),
+            Call::Beam { steps } => {
+                let mut each = (0..steps).map(|_| s.beam_step(vram, xr));
+                each.find(Result::is_err).unwrap_or(Ok(())).map(|()| (0, 0))
+            }
             Call::Line => s.interrupt_line().map(|up| (u64::from(up), 0)),
         };
         outcome(before, &s, answer)
@@ -367,7 +387,10 @@ pub fn on_library(s: &mut xosera::State, vram: &mut [u16], xr: &mut [u16], call:
         Call::Step => blitted(xosera::blit_step(s, vram, xr)),
         Call::Run { n } => blitted(xosera::blit_run(s, vram, xr, n)),
         Call::Tick => said(xosera::timer_tick(s).refusal, 0, 0),
-        Call::FrameEnd => said(xosera::frame_end(s).refusal, 0, 0),
+        Call::Beam { steps } => {
+            let mut each = (0..steps).map(|_| xosera::beam_step(s, vram, xr).refusal);
+            said(each.find(|&refusal| refusal != 0).unwrap_or(0), 0, 0)
+        }
         Call::Line => {
             let a = xosera::interrupt_line(s);
             said(a.refusal, u64::from(a.up), 0)

@@ -4,7 +4,7 @@ use compare::calls::{Calls, VRAM_LENGTHS};
 use compare::files::{with_state, STATE_AT, STATE_END};
 use compare::random::Random;
 use compare::settings::seed;
-use xosera::{Adapter, BlitRegs, State, STATE_WORDS, XM_DATA, XM_WR_ADDR};
+use xosera::{Adapter, BlitRegs, State, SAVED_STATE_WORDS, XM_DATA, XM_WR_ADDR};
 
 const PAGE: &str = include_str!("../../../../docs/SAVED.md");
 
@@ -217,7 +217,7 @@ fn the_parts_stand_where_the_page_says() {
 #[test]
 fn each_field_stands_where_the_page_says() {
     let rows = state_rows();
-    assert_eq!(rows.len(), STATE_WORDS);
+    assert_eq!(rows.len(), SAVED_STATE_WORDS);
     cover(
         rows.iter().map(|row| (row.offset, row.bytes)),
         STATE_AT,

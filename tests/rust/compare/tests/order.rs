@@ -10,6 +10,9 @@ use compare::settings::{number, seed};
 
 const BLITTER_BIT: u16 = 1 << 6;
 
+/// `XR_COPP_CTRL` bit 15, clear throughout.
+const ENABLED: u16 = 0x8000;
+
 #[derive(Clone)]
 struct Adapter {
     state: xosera::State,
@@ -63,8 +66,13 @@ fn allowed(x: &Adapter, f: &Footprint, call: Call) -> bool {
     match call {
         Call::Reset => false,
         Call::Write {
-            reg: 5, odd: true, ..
-        } => x.state.host.xr.wr_xaddr.0 != 0x49,
+            reg: 5,
+            odd: true,
+            byte,
+        } => match x.state.host.xr.wr_xaddr.0 {
+            0x01 => (latch(5) | u16::from(byte)) & ENABLED == 0,
+            xaddr => xaddr != 0x49,
+        },
         Call::Write {
             reg: 7,
             odd: true,
@@ -100,8 +108,9 @@ fn agreed(call: Call, said: Said) -> Said {
     }
 }
 
-/// One start and one list, in both orders. How many events it had, and how many beside the steps.
-fn one_list(list: u64, seed: u64) -> (u64, u64) {
+/// One start and one list, in both orders. How many events it had, how many beside the blit steps, and
+/// how far the beam went.
+fn one_list(list: u64, seed: u64) -> [u64; 3] {
     let mut calls = Calls::new(Random::new(seed));
     let length = VRAM_LENGTHS[calls.random().below(4) as usize];
     let mut x = Adapter {
@@ -114,9 +123,12 @@ fn one_list(list: u64, seed: u64) -> (u64, u64) {
         .map(|_| calls.random().word())
         .collect();
 
-    // Any idle adapter, about to start a blit of some 1 to 64 words.
+    // Any idle adapter with the copper disabled, about to start a blit of some 1 to 64 words.
     x.state.engine = xosera::Engine::default();
     x.state.queued = 0;
+    x.state.video.copp_ctrl &= !ENABLED;
+    x.state.beam.copper_running = 0;
+    x.state.beam.copper_word = 0;
     x.state.host.xr.wr_xaddr.0 = 0x49;
     x.state.host.latch[5] = 0;
     x.state.blit.lines = calls.random().below(8) as u16 | x.state.blit.lines & 0x8000;
@@ -139,7 +151,7 @@ fn one_list(list: u64, seed: u64) -> (u64, u64) {
         whole.call(Call::Step);
     }
 
-    let (mut steps, mut events, mut beside) = (0u64, 0, 0);
+    let (mut steps, mut events, mut beside, mut beam) = (0u64, 0, 0, 0);
     while steps < f.words || calls.random().below(20) != 0 {
         let call = if steps < f.words && events > 200 {
             Call::Run { n: f.words }
@@ -151,11 +163,15 @@ fn one_list(list: u64, seed: u64) -> (u64, u64) {
         }
         events += 1;
         let said = x.call(call);
+        assert_eq!(x.state.video.copp_ctrl & ENABLED, 0);
         match call {
             Call::Step => steps = steps.saturating_add(1),
             Call::Run { n } => steps = steps.saturating_add(n),
             _ => {
                 beside += 1;
+                if let Call::Beam { steps } = call {
+                    beam += steps;
+                }
                 let other = whole.call(call);
                 assert_eq!(
                     agreed(call, said),
@@ -172,7 +188,7 @@ fn one_list(list: u64, seed: u64) -> (u64, u64) {
     assert_eq!(x.state, whole.state, "list {}: the states differ", list);
     assert!(x.vram == whole.vram, "list {}: VRAM differs", list);
     assert!(x.xr == whole.xr, "list {}: XR memory differs", list);
-    (events, beside)
+    [events, beside, beam]
 }
 
 #[test]
@@ -184,14 +200,13 @@ fn the_order_does_not_matter() {
         seed, seed
     );
     let mut seeds = Random::new(seed);
-    let (mut events, mut beside) = (0, 0);
+    let mut all = [0; 3];
     for list in 0..lists {
-        let (e, b) = one_list(list, seeds.number());
-        events += e;
-        beside += b;
+        let one = one_list(list, seeds.number());
+        all = [0, 1, 2].map(|i| all[i] + one[i]);
     }
     println!(
-        "order: {} lists, {} events, {} of them beside the steps: both orders end alike",
-        lists, events, beside
+        "order: {} lists, {} events, {} of them beside the blit steps, {} positions of the beam: both orders end alike",
+        lists, all[0], all[1], all[2]
     );
 }

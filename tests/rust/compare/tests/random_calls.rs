@@ -5,6 +5,7 @@
 
 use compare::calls::{Calls, VRAM_LENGTHS, XR_EDGES};
 use compare::convert::{fits, in_range, typed, NARROW};
+use compare::copper::{next_instruction, Coppers, ENABLED};
 use compare::files::{file, room, KINDS, ROOMS};
 use compare::masks::Masks;
 use compare::pair::{Call, Lent, Mismatch, Pair, Said};
@@ -22,7 +23,7 @@ const SAVED: u64 = 500;
 struct Tally {
     calls: u64,
     kinds: [u64; 10],
-    refusals: [u64; 10],
+    refusals: [u64; 11],
     lengths: [u64; 9],
     edges: Vec<u64>,
     words: u64,
@@ -39,14 +40,28 @@ struct Tally {
     line_up: u64,
     /// Saves by room, and by what they said.
     rooms: [u64; 5],
-    saves: [u64; 10],
+    saves: [u64; 11],
+    /// Saves refused with 10, with one alone not at rest: line, position, copper.
+    unrest: [u64; 3],
     /// Loads by file, those that were done by file, and all by what they said.
     files: [u64; 13],
     loaded: [u64; 13],
-    loads: [u64; 10],
+    loads: [u64; 11],
+    /// Loads that brought beam or copper to rest.
+    rested: u64,
     /// States with one word alone that does not fit its byte or flag, by `NARROW`.
-    misfits: [u64; 22],
+    misfits: [u64; 23],
     masks: Masks,
+    /// Single beam steps by what they did, and all those of bursts.
+    coppers: Coppers,
+    bursts: u64,
+    /// Beam steps refused with 1, 2 and 3.
+    unmoved: [u64; 3],
+    /// Reads of `XM_SYS_CTRL` by the blank flags, and loads of a line other than 0.
+    blanks: [u64; 4],
+    scanlines: u64,
+    /// Writes to `XR_COPP_CTRL` that stopped the copper.
+    stopped: u64,
 }
 
 impl Tally {
@@ -82,22 +97,49 @@ impl Tally {
         if let (Some((i, _)), None) = (misfits.next(), misfits.next()) {
             self.misfits[i] += 1;
         }
+        self.count_beam(before, after, call, said);
         self.expired += u64::from(call == Call::Tick && before.host.timer.countdown == 1);
         self.line_up += u64::from(call == Call::Line && value == 1);
     }
 
+    fn count_beam(
+        &mut self,
+        before: &xosera::State,
+        after: &xosera::State,
+        call: Call,
+        said: Said,
+    ) {
+        match (call, said.refusal) {
+            (Call::Beam { steps }, 0) => self.bursts += if steps > 1 { steps } else { 0 },
+            (Call::Beam { .. }, refusal) => self.unmoved[refusal as usize - 1] += 1,
+            (Call::Read { reg: 0, odd: false }, 0) => {
+                self.blanks[said.value as usize >> 2 & 3] += 1;
+            }
+            (
+                Call::Write {
+                    reg: 3, odd: true, ..
+                }
+                | Call::Read { reg: 5, odd: true },
+                0,
+            ) => {
+                let scanline = after.host.xr.rd_xaddr.0 == 0x03;
+                self.scanlines += u64::from(scanline && after.beam.line > 0);
+            }
+            (
+                Call::Write {
+                    reg: 5, odd: true, ..
+                },
+                0,
+            ) => {
+                self.stopped += u64::from(before.beam.copper_running > after.beam.copper_running);
+            }
+            _ => {}
+        }
+    }
+
     fn print(&self) {
         let names = [
-            "reset",
-            "write",
-            "read",
-            "step",
-            "run",
-            "tick",
-            "frame end",
-            "line",
-            "save",
-            "load",
+            "reset", "write", "read", "step", "run", "tick", "beam", "line", "save", "load",
         ];
         let kinds: Vec<String> = names
             .iter()
@@ -106,7 +148,7 @@ impl Tally {
             .collect();
         println!("  calls      {}", kinds.join(", "));
         println!(
-            "  answers    done {}, refusals 1 to 9: {:?}",
+            "  answers    done {}, refusals 1 to 10: {:?}",
             self.refusals[0],
             &self.refusals[1..]
         );
@@ -129,19 +171,29 @@ impl Tally {
             self.edges.iter().min().unwrap()
         );
         let rooms = named(&ROOMS, &self.rooms);
-        println!("  saves      done {}; rooms: {}", self.saves[0], rooms);
+        println!(
+            "  saves      done {}; line, position or copper alone not at rest {:?}; rooms: {}",
+            self.saves[0], self.unrest, rooms
+        );
         let done = named(&KINDS, &self.loaded);
-        println!("  loads      done {}: {}", self.loads[0], done);
+        println!(
+            "  loads      done {}, {} of them to rest: {}",
+            self.loads[0], self.rested, done
+        );
         println!("  files      {}", named(&KINDS, &self.files));
         println!(
             "  words      each byte and flag alone out of range at least {} times",
             self.misfits.iter().min().unwrap()
         );
+        println!(
+            "  seen       XM_SYS_CTRL by its blank flags {:?}, XR_SCANLINE not 0 {}; copper stopped by the host {}; beam steps in bursts {}, refused {:?}",
+            self.blanks, self.scanlines, self.stopped, self.bursts, self.unmoved
+        );
     }
 
     /// Everything that the papers speak of has happened.
     fn require_all(&self) {
-        let of_save = [0, 1, 2, 3, 7].map(|said| self.saves[said]);
+        let of_save = [0, 1, 2, 3, 7, 10].map(|said| self.saves[said]);
         let of_load = [0, 1, 2, 3, 8, 9].map(|said| self.loads[said]);
         // An own file, another's, and one with a byte changed that is another's then.
         let loaded = ["own", "another's", "of the state", "any byte"].map(|name| {
@@ -160,6 +212,10 @@ impl Tally {
             &self.edges[..],
             &self.misfits[..],
             &self.masks.numbers(),
+            &self.coppers.numbers(),
+            &self.unrest[..],
+            &self.unmoved[..],
+            &self.blanks[..],
             &[
                 self.shifted,
                 self.constant,
@@ -172,6 +228,9 @@ impl Tally {
                 self.idle,
                 self.expired,
                 self.line_up,
+                self.rested,
+                self.scanlines,
+                self.stopped,
             ],
         ];
         assert!(
@@ -201,7 +260,7 @@ fn kind(call: Call) -> usize {
         Call::Step => 3,
         Call::Run { .. } => 4,
         Call::Tick => 5,
-        Call::FrameEnd => 6,
+        Call::Beam { .. } => 6,
         Call::Line => 7,
     }
 }
@@ -245,6 +304,12 @@ fn episode(calls: &mut Calls, tally: &mut Tally, length: usize, n: u64) -> Resul
         };
         let call = calls.next(&before);
         let lent = calls.lend(vram, pair.room());
+        let instruction = match call {
+            Call::Beam { steps: 1 } if in_range(before.words()) => {
+                next_instruction(&before, pair.xr())
+            }
+            _ => None,
+        };
         let (after, said) = pair
             .call(before, lent, call)
             .map_err(|mismatch| format!("call {} of the episode\n{}", i, mismatch))?;
@@ -265,6 +330,9 @@ fn episode(calls: &mut Calls, tally: &mut Tally, length: usize, n: u64) -> Resul
         tally.refusals[said.refusal as usize] += 1;
         tally.lengths[length] += 1;
         tally.count(&before, &after, call, said);
+        if call == (Call::Beam { steps: 1 }) && said.refusal == 0 {
+            tally.coppers.count(&before, instruction, &after);
+        }
         if !astray || in_range(before.words()) {
             state = after;
         }
@@ -281,6 +349,7 @@ fn save_or_load(
     state: xosera::State,
     own: &mut Option<Vec<u8>>,
 ) -> Result<xosera::State, Box<Mismatch>> {
+    let state = or_at_rest(calls, state);
     let before = match calls.random().one_in(10) {
         true => calls.state_out_of_range(state),
         false => state,
@@ -296,10 +365,23 @@ fn save_or_load(
         }
         tally.rooms[which] += 1;
         tally.saves[said.refusal as usize] += 1;
+        if said.refusal == 10 {
+            let beam = before.beam;
+            match [beam.line, beam.position, beam.copper_running] {
+                [_, 0, 0] => tally.unrest[0] += 1,
+                [0, _, 0] => tally.unrest[1] += 1,
+                [0, 0, _] => tally.unrest[2] += 1,
+                _ => {}
+            }
+        }
         (SAVE, before, said)
     } else {
         let which = calls.random().below(15).saturating_sub(2) as usize;
-        let own = own.get_or_insert_with(|| pair.file(state, vram));
+        let rest = xosera::State {
+            beam: xosera::Beam::default(),
+            ..state
+        };
+        let own = own.get_or_insert_with(|| pair.file(rest, vram));
         let kind = KINDS[which].0;
         let file = file(calls, kind, vram, own);
         let (after, said) = pair.load(before, lent, &file)?;
@@ -312,6 +394,7 @@ fn save_or_load(
         tally.files[which] += 1;
         tally.loaded[which] += u64::from(said.refusal == 0);
         tally.loads[said.refusal as usize] += 1;
+        tally.rested += u64::from(said.refusal == 0 && before.beam != rest.beam);
         (LOAD, after, said)
     };
     tally.kinds[call] += 1;
@@ -321,6 +404,22 @@ fn save_or_load(
     } else {
         state
     })
+}
+
+/// The state, mostly with beam and copper at rest, or all but one of them.
+fn or_at_rest(calls: &mut Calls, state: xosera::State) -> xosera::State {
+    let (mut s, r) = (state, calls.random());
+    let which = r.below(8);
+    if which > 0 {
+        s.beam = xosera::Beam::default();
+    }
+    match which {
+        1 => s.beam.line = r.pick(&[1, 480, 524]),
+        2 => s.beam.position = r.pick(&[1, 160, 799]),
+        3 | 4 => s.beam.copper_running = u16::from(s.video.copp_ctrl & ENABLED != 0),
+        _ => {}
+    }
+    s
 }
 
 #[test]
@@ -350,6 +449,8 @@ fn library_and_model_agree() {
     }
     tally.print();
     tally.masks.print();
+    tally.coppers.print();
+    assert_eq!(tally.coppers.impossible(), 0);
     if wanted >= 1_000_000 {
         tally.require_all();
     }

@@ -6,19 +6,28 @@ use compare::calls::{Calls, VRAM_LENGTHS};
 use compare::convert::{typed, words};
 use compare::files::{arranged, gaps, sections, with_state, Section};
 use compare::files::{ARRANGEMENTS, STATE_AT, STATE_END};
-use xosera::{saved_bytes, Adapter, Blitted, Refusal, State, STATE_WORDS, XR_WORDS};
+use xosera::{saved_bytes, Adapter, Beam, Blitted, Refusal, State};
+use xosera::{SAVED_STATE_WORDS, STATE_WORDS, XR_WORDS};
 
 const NOT_SAVED: Refusal = Refusal(8);
 const OTHER_VRAM: Refusal = Refusal(9);
 
 /// Some adapter in range.
-fn any_adapter(calls: &mut Calls, vram: usize) -> Adapter {
+fn any_target(calls: &mut Calls, vram: usize) -> Adapter {
     let state = calls.state_in_range();
     let r = calls.random();
     Adapter {
         state,
         vram: (0..vram).map(|_| r.word()).collect(),
         xr: (0..XR_WORDS).map(|_| r.word()).collect(),
+    }
+}
+
+/// Some adapter at rest.
+fn any_adapter(calls: &mut Calls, vram: usize) -> Adapter {
+    Adapter {
+        state: calls.state_at_rest(),
+        ..any_target(calls, vram)
     }
 }
 
@@ -56,6 +65,13 @@ fn read(file: &[u8]) -> Vec<u16> {
     pairs.map(|p| u16::from_be_bytes([p[0], p[1]])).collect()
 }
 
+/// The words of a state at rest, of which the first are those of a file.
+fn at_rest(saved: &[u16]) -> [u16; STATE_WORDS] {
+    let mut words = [0; STATE_WORDS];
+    words[..SAVED_STATE_WORDS].copy_from_slice(&saved[..SAVED_STATE_WORDS]);
+    words
+}
+
 /// Is this the file of some adapter? If so, of the one whose words stand in it.
 fn is_saved(file: &[u8]) -> bool {
     let mut lengths = VRAM_LENGTHS.into_iter();
@@ -63,10 +79,10 @@ fn is_saved(file: &[u8]) -> bool {
         return false;
     }
     let words = read(file);
-    let (state, memories) = words.split_at(STATE_WORDS);
+    let (state, memories) = words.split_at(SAVED_STATE_WORDS);
     let (xr, vram) = memories.split_at(XR_WORDS);
     let mut again = vec![0; file.len()];
-    let saved = typed(state.try_into().unwrap()).map(|s| s.save(vram, xr, &mut again));
+    let saved = typed(&at_rest(state)).map(|s| s.save(vram, xr, &mut again));
     matches!(saved, Some(Ok(_))) && again == file
 }
 
@@ -75,7 +91,7 @@ fn is_saved(file: &[u8]) -> bool {
 #[test]
 fn every_byte_of_contents_and_state_counts() {
     let mut calls = Calls::seeded();
-    let target = any_adapter(&mut calls, 256);
+    let target = any_target(&mut calls, 256);
     let mut reset = any_adapter(&mut calls, 256);
     reset.state = State::reset();
     let adapters = [
@@ -93,7 +109,7 @@ fn every_byte_of_contents_and_state_counts() {
                 match load(&target, &file) {
                     Ok(y) => {
                         assert!(at >= STATE_AT, "byte {} of the contents", at);
-                        assert_eq!(y.state.words()[..], read(&file)[..STATE_WORDS]);
+                        assert_eq!(*y.state.words(), at_rest(&read(&file)));
                         assert!(y.vram == x.vram && y.xr == x.xr);
                         assert!(y.saved().unwrap() == file, "byte {} is {}", at, byte);
                         loaded += 1;
@@ -121,7 +137,7 @@ fn every_byte_of_contents_and_state_counts() {
 fn every_word_of_the_memories_is_kept() {
     let mut calls = Calls::seeded();
     let x = any_adapter(&mut calls, 256);
-    let target = any_adapter(&mut calls, 256);
+    let target = any_target(&mut calls, 256);
     let mut file = x.saved().unwrap();
     for at in STATE_END..file.len() {
         let right = file[at];
@@ -144,13 +160,13 @@ fn every_word_of_the_memories_is_kept() {
 fn a_part_of_a_file_is_refused() {
     let mut calls = Calls::seeded();
     let file = any_adapter(&mut calls, 256).saved().unwrap();
-    let target = any_adapter(&mut calls, 256);
+    let target = any_target(&mut calls, 256);
     for length in 0..file.len() {
         assert_eq!(load(&target, &file[..length]), Err(NOT_SAVED));
     }
     let file = any_adapter(&mut calls, 1024).saved().unwrap();
     for vram in [256, 512] {
-        let target = any_adapter(&mut calls, vram);
+        let target = any_target(&mut calls, vram);
         let front = &file[..saved_bytes(vram)];
         assert_eq!(load(&target, front), Err(NOT_SAVED));
     }
@@ -161,7 +177,7 @@ fn bytes_behind_a_file_are_refused() {
     let mut calls = Calls::seeded();
     let file = any_adapter(&mut calls, 256).saved().unwrap();
     for vram in [256, 512] {
-        let target = any_adapter(&mut calls, vram);
+        let target = any_target(&mut calls, vram);
         for more in (1..=40).chain([512, 513, 1536, 130_560, 200_000]) {
             for byte in [0, 1, 255] {
                 let mut longer = file.clone();
@@ -219,7 +235,7 @@ fn other_sections_are_refused() {
 fn no_gap_makes_other_sections_a_file() {
     let mut calls = Calls::seeded();
     let file = any_adapter(&mut calls, 256).saved().unwrap();
-    let targets = [256, 512].map(|vram| any_adapter(&mut calls, vram));
+    let targets = [256, 512].map(|vram| any_target(&mut calls, vram));
     let mut loads = 0;
     for kinds in ARRANGEMENTS {
         let sections = sections(&file, kinds);
@@ -244,7 +260,7 @@ fn no_gap_makes_other_sections_a_file() {
 #[test]
 fn every_length_there_and_back() {
     let mut calls = Calls::seeded();
-    let targets = VRAM_LENGTHS.map(|vram| any_adapter(&mut calls, vram));
+    let targets = VRAM_LENGTHS.map(|vram| any_target(&mut calls, vram));
     for vram in VRAM_LENGTHS {
         let x = any_adapter(&mut calls, vram);
         let bytes = 13_490 + 2 * vram;
@@ -292,6 +308,41 @@ fn a_refused_save_leaves_the_room() {
     assert_eq!((said(&wrong, 2 * bytes), said(&wrong, 0)), (2, 2));
     wrong.vram.push(0);
     assert_eq!((said(&wrong, 2 * bytes), said(&wrong, 0)), (1, 1));
+}
+
+/// 10 unless all of beam and copper are 0, after 7 and whatever else the state holds.
+#[test]
+fn only_an_adapter_at_rest_is_saved() {
+    let mut calls = Calls::seeded();
+    let mut x = any_adapter(&mut calls, 256);
+    x.state.video.copp_ctrl |= 0x8000;
+    let file = x.saved().unwrap();
+    for (line, position, copper_running, copper_word) in [
+        (1, 0, 0, 0),
+        (524, 0, 0, 0),
+        (0, 1, 0, 0),
+        (0, 799, 0, 0),
+        (0, 0, 1, 0),
+        (0, 0, 1, 1023),
+        (524, 799, 1, 1023),
+    ] {
+        x.state.beam = Beam {
+            line,
+            position,
+            copper_running,
+            copper_word,
+        };
+        for length in [file.len(), file.len() + 1] {
+            let mut room = vec![0xA5; length];
+            let said = xosera::save(&x.state, &x.vram, &x.xr, &mut room);
+            assert_eq!((said.refusal, said.length), (10, 0), "{:?}", x.state.beam);
+            assert!(room.iter().all(|&byte| byte == 0xA5));
+        }
+        assert_eq!(x.save(&mut vec![0; file.len() - 1]), Err(Refusal(7)));
+        let y = load(&x, &file).unwrap();
+        assert_eq!(y.state.beam, Beam::default());
+        assert!(y.saved().unwrap() == file);
+    }
 }
 
 /// Of the refusals that apply to a load the first is given: of what is lent, then of the file.
@@ -373,7 +424,7 @@ fn a_blit_goes_on_after_a_load() {
     assert_eq!(count(whole.blit_run(u64::MAX)), 23);
     for done in 0..=23 {
         let file = x.saved().unwrap();
-        let target = any_adapter(&mut calls, 256);
+        let target = any_target(&mut calls, 256);
         let mut y = load(&target, &file).unwrap();
         assert_eq!(y.state.queued, u16::from(done < 15));
         assert_eq!(y.state.engine.running, u16::from(done < 23));

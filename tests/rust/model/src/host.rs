@@ -1,9 +1,8 @@
 //! "Host bytes": the sixteen main registers, the timer and the interrupt line. Change request 2: a data
-//! write answers its mask.
+//! write answers its mask. Change request 3: `XM_SYS_CTRL` reads blank flags.
 
 use crate::{masked, place, Refusal, State};
 
-const VIDEO: u8 = 1 << 4;
 const TIMER: u8 = 1 << 5;
 
 impl State {
@@ -26,7 +25,7 @@ impl State {
             return Ok(0);
         }
         let word = self.latch[reg as usize] as u16 * 256 + byte as u16;
-        if reg == 5 && self.queued && (0x40..=0x49).contains(&self.wr_xaddr) {
+        if reg == 5 && self.is_held_off(self.wr_xaddr) {
             return Err(Refusal::BlitterFull);
         }
         if reg == 1 && word >= 0x8000 {
@@ -116,9 +115,11 @@ impl State {
     fn word_at(&self, reg: u8) -> u16 {
         match reg {
             0 => {
-                let full = if self.queued { 1 << 14 } else { 0 };
-                let busy = if self.running { 1 << 13 } else { 0 };
-                full + busy + self.nibble_mask as u16
+                let full = (self.queued as u16) << 14;
+                let busy = (self.running as u16) << 13;
+                let hblank = (self.in_left_blanking() as u16) << 11;
+                let vblank = (self.below_the_picture() as u16) << 10;
+                full + busy + hblank + vblank + self.nibble_mask as u16
             }
             1 => self.int_mask as u16 * 256 + self.status as u16,
             3 => self.rd_xaddr,
@@ -145,13 +146,6 @@ impl State {
                 self.countdown = self.interval;
             }
         }
-        Ok(())
-    }
-
-    /// A frame end sets status bit 4.
-    pub fn frame_end(&mut self) -> Result<(), Refusal> {
-        self.check_range()?;
-        self.status |= VIDEO;
         Ok(())
     }
 

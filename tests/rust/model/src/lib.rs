@@ -4,6 +4,7 @@
 //! chapter or a request to a module, and says everything in the plainest way, nibble by nibble. The
 //! crate `compare` runs both side by side.
 
+mod beam;
 mod blitter;
 mod host;
 mod saved;
@@ -15,6 +16,12 @@ pub use state::{Blit, Refusal, State};
 
 /// Words of XR memory: tile 5,120, colour 512, copper 1,024.
 pub const XR_WORDS: usize = 6656;
+
+/// `XR_COPP_CTRL` among the XR registers.
+const COPP_CTRL: usize = 0x01;
+
+/// The status bit of the frame end.
+const VIDEO: u8 = 1 << 4;
 
 /// VRAM is a power of two of words from 256 to 65,536.
 pub fn is_vram_len(words: usize) -> bool {

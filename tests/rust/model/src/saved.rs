@@ -1,4 +1,5 @@
-//! "Save the adapter, and load it again": change request 1. docs/SAVED.md fixes the state's order.
+//! "Save the adapter, and load it again": change request 1. docs/SAVED.md fixes the state's order. Change
+//! request 3: only an adapter at rest is saved, and a load gives rest.
 
 use std::slice::ChunksExact;
 
@@ -9,7 +10,7 @@ const CONTENTS: usize = 1 + SECTIONS * ENTRY;
 const SECTIONS: usize = 3;
 const ENTRY: usize = 1 + 4 + 4;
 
-/// 75 words of two bytes.
+/// 75 words of two bytes: all but beam and copper.
 const STATE_BYTES: usize = 150;
 
 impl State {
@@ -20,6 +21,9 @@ impl State {
         let bodies = [&state[..], xr, vram];
         let length = CONTENTS + bodies.iter().map(|body| 2 * body.len()).sum::<usize>();
         let file = room.get_mut(..length).ok_or(Refusal::RoomTooShort)?;
+        if !self.at_rest() {
+            return Err(Refusal::NotAtRest);
+        }
 
         let (contents, mut rest) = file.split_at_mut(CONTENTS);
         contents[0] = SECTIONS as u8;
@@ -161,8 +165,8 @@ impl Body<'_> {
         })
     }
 
-    /// The fields as they stand in the table in docs/SAVED.md, or nothing where a word is no byte or
-    /// flag but should be one.
+    /// The fields as they stand in the table in docs/SAVED.md, beam and copper at rest, or nothing where
+    /// a word is no byte or flag but should be one.
     fn state(&mut self) -> Option<State> {
         let mut s = State::reset();
         for latch in s.latch.iter_mut() {

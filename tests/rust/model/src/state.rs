@@ -14,6 +14,7 @@ pub enum Refusal {
     RoomTooShort = 7,
     NotSaved = 8,
     OtherVram = 9,
+    NotAtRest = 10,
 }
 
 /// The blitter's ten registers in the order of their addresses, 0x40 to 0x49.
@@ -66,6 +67,12 @@ pub struct State {
     pub line: u16,
     pub word: u16,
     pub kept: u16,
+
+    pub beam_line: u16,
+    pub beam_position: u16,
+    pub copper_running: bool,
+    /// The program address of the copper's next instruction.
+    pub copper_word: u16,
 }
 
 impl State {
@@ -98,6 +105,10 @@ impl State {
             line: 0,
             word: 0,
             kept: 0,
+            beam_line: 0,
+            beam_position: 0,
+            copper_running: false,
+            copper_word: 0,
         }
     }
 
@@ -119,9 +130,10 @@ impl State {
             && countdown_ok
             && (!self.queued || self.running)
             && engine_ok
+            && self.beam_in_range()
     }
 
-    /// Refusals 1 to 3, which every access, step and run can give.
+    /// Refusals 1 to 3, which every access, run and step, of blitter or beam, can give.
     pub(crate) fn check(&self, vram: &[u16], xr: &[u16]) -> Result<(), Refusal> {
         if !is_vram_len(vram.len()) {
             return Err(Refusal::VramLength);

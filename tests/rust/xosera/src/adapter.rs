@@ -20,6 +20,7 @@ impl fmt::Display for Refusal {
             7 => "room too short for the saved adapter",
             8 => "not a saved adapter",
             9 => "saved VRAM is not as long as the memory lent",
+            10 => "beam or copper not at rest",
             _ => "unknown refusal",
         };
         write!(f, "refusal {}: {}", self.0, text)
@@ -121,8 +122,10 @@ impl Adapter {
         done((), crate::timer_tick(&mut self.state).refusal)
     }
 
-    pub fn frame_end(&mut self) -> Result<(), Refusal> {
-        done((), crate::frame_end(&mut self.state).refusal)
+    /// One native pixel of the beam, and one instruction of a running copper.
+    pub fn beam_step(&mut self) -> Result<(), Refusal> {
+        let (s, vram, xr) = (&mut self.state, &self.vram, &mut self.xr);
+        done((), crate::beam_step(s, vram, xr).refusal)
     }
 
     pub fn interrupt_line(&self) -> Result<bool, Refusal> {
@@ -130,7 +133,8 @@ impl Adapter {
         done(a.up, a.refusal)
     }
 
-    /// Write the file at the front of the room; its length in bytes.
+    /// Write the file at the front of the room, given beam and copper at rest; its
+    /// length in bytes.
     pub fn save(&self, room: &mut [u8]) -> Result<usize, Refusal> {
         let a = crate::save(&self.state, &self.vram, &self.xr, room);
         done(a.length as usize, a.refusal)
@@ -144,7 +148,8 @@ impl Adapter {
         Ok(room)
     }
 
-    /// Become the adapter whose file this is. Its VRAM must be as long as this one's.
+    /// Become the adapter whose file this is, beam and copper at rest. Its VRAM must be as long as this
+    /// one's.
     pub fn load(&mut self, file: &[u8]) -> Result<(), Refusal> {
         let (s, vram, xr) = (&mut self.state, &mut self.vram, &mut self.xr);
         done((), crate::load(s, vram, xr, file).refusal)

@@ -18,7 +18,7 @@ pub const XR_WORDS: usize = 6656;
 
 /// Bytes of a saved adapter's file (docs/SAVED.md): contents, state and XR memory, then VRAM.
 pub const fn saved_bytes(vram_words: usize) -> usize {
-    28 + 2 * STATE_WORDS + 2 * XR_WORDS + 2 * vram_words
+    28 + 2 * SAVED_STATE_WORDS + 2 * XR_WORDS + 2 * vram_words
 }
 
 /// An address in VRAM.
@@ -106,6 +106,17 @@ pub struct Engine {
     pub regs: BlitRegs,
 }
 
+/// Where the beam is, and the copper: whether it runs, and the program address of its next instruction.
+/// All 0 is called rest.
+#[repr(C)]
+#[derive(Clone, Copy, Debug, Default, PartialEq, Eq)]
+pub struct Beam {
+    pub line: u16,
+    pub position: u16,
+    pub copper_running: u16,
+    pub copper_word: u16,
+}
+
 /// The whole state but for the memories: words, flags (0 or 1) and bytes too, and no padding.
 /// [`State::reset`] makes one; `default` is all 0.
 #[repr(C)]
@@ -117,10 +128,14 @@ pub struct State {
     pub engine: Engine,
     pub video: Video,
     pub blit: BlitRegs,
+    pub beam: Beam,
 }
 
 /// Words of the state.
-pub const STATE_WORDS: usize = 75;
+pub const STATE_WORDS: usize = 79;
+
+/// Those of them that a saved adapter's file holds, the first: all but beam and copper.
+pub const SAVED_STATE_WORDS: usize = 75;
 
 const _: [(); 2 * STATE_WORDS] = [(); std::mem::size_of::<State>()];
 

@@ -62,7 +62,13 @@ pub mod ffi {
             n: u64,
         ) -> BlitAnswer;
         pub fn xosera_timer_tick(s: *mut State) -> StateAnswer;
-        pub fn xosera_frame_end(s: *mut State) -> StateAnswer;
+        pub fn xosera_beam_step(
+            s: *mut State,
+            vram: *const u16,
+            vram_len: usize,
+            xr: *mut u16,
+            xr_len: usize,
+        ) -> StateAnswer;
         pub fn xosera_interrupt_line(s: *const State) -> LineAnswer;
         pub fn xosera_save(
             s: *const State,
@@ -129,9 +135,10 @@ pub fn timer_tick(s: &mut State) -> StateAnswer {
     unsafe { ffi::xosera_timer_tick(s) }
 }
 
-/// The visible picture ends.
-pub fn frame_end(s: &mut State) -> StateAnswer {
-    unsafe { ffi::xosera_frame_end(s) }
+/// The beam moves on by one native pixel, and a running copper does one instruction.
+pub fn beam_step(s: &mut State, vram: &[u16], xr: &mut [u16]) -> StateAnswer {
+    let (v, vn) = (vram.as_ptr(), vram.len());
+    unsafe { ffi::xosera_beam_step(s, v, vn, xr.as_mut_ptr(), xr.len()) }
 }
 
 /// Is the interrupt line up?

@@ -43,7 +43,7 @@ fn a_blit_takes_a_step_a_word() {
     ] {
         x.write_xr(xaddr, word).unwrap();
     }
-    assert_eq!(x.read_word(XM_SYS_CTRL), Ok(0x200F));
+    assert_eq!(x.read_word(XM_SYS_CTRL), Ok(0x280F));
     assert_eq!(x.blit_run(0), blitted(0, 0));
     assert_eq!(x.blit_step(), blitted(1, 0x7));
     assert_eq!(x.vram[0x10..0x14], [0x0555, 0, 0, 0]);
@@ -57,13 +57,66 @@ fn time_raises_the_line() {
     let mut x = Adapter::new(256);
     x.write_word(XM_INT_CTRL, 0x3000).unwrap();
     assert_eq!(x.interrupt_line(), Ok(false));
-    x.frame_end().unwrap();
+    (x.state.beam.line, x.state.beam.position) = (479, 799);
+    x.beam_step().unwrap();
     assert_eq!(x.interrupt_line(), Ok(true));
     x.write_word(XM_INT_CTRL, 0x3010).unwrap();
     assert_eq!(x.interrupt_line(), Ok(false));
     x.write_word(xosera::XM_TIMER, 1).unwrap();
     x.timer_tick().unwrap();
     assert_eq!(x.read_word(XM_INT_CTRL), Ok(0x3020));
+}
+
+/// Blank flags and scanline on line 479 and on line 480.
+#[test]
+fn the_beam_is_seen_by_the_host() {
+    let mut x = Adapter::new(256);
+    assert_eq!(x.read_word(XM_SYS_CTRL), Ok(0x080F));
+    (x.state.beam.line, x.state.beam.position) = (479, 158);
+    for flags in [0x080F, 0x000F, 0x000F] {
+        x.beam_step().unwrap();
+        assert_eq!(x.read_word(XM_SYS_CTRL), Ok(flags));
+    }
+    assert_eq!(x.read_xr(0x03), Ok(479));
+    x.state.beam.position = 799;
+    x.beam_step().unwrap();
+    assert_eq!(x.read_word(XM_SYS_CTRL), Ok(0x0C0F));
+    assert_eq!(x.read_xr(0x03), Ok(480));
+    x.state.beam.position = 159;
+    x.beam_step().unwrap();
+    assert_eq!(x.read_word(XM_SYS_CTRL), Ok(0x040F));
+}
+
+/// Wait for line 240, pixel 8; set `XR_VID_CTRL`; wait for the frame's end.
+#[test]
+fn a_copper_list_changes_the_border() {
+    let mut x = Adapter::new(256);
+    let list = [240, 8 << 4, 0x6000, 0x1234, 0, 0b11];
+    for (xaddr, word) in (0xC000..).zip(list) {
+        x.write_xr(xaddr, word).unwrap();
+    }
+    x.write_xr(0x01, 0x8000).unwrap();
+    (x.state.beam.line, x.state.beam.position) = (524, 799);
+    x.beam_step().unwrap();
+    let at_line_0 = xosera::Beam {
+        copper_running: 1,
+        ..xosera::Beam::default()
+    };
+    assert_eq!(x.state.beam, at_line_0);
+    for _ in 0..240 * 800 + 168 {
+        x.beam_step().unwrap();
+        assert_eq!(x.state.video.vid_ctrl, 0);
+    }
+    x.beam_step().unwrap();
+    assert_eq!((x.state.beam.line, x.state.beam.position), (240, 169));
+    assert_eq!(x.state.video.vid_ctrl, 0x1234);
+    for _ in 0..1000 {
+        x.beam_step().unwrap();
+        assert_eq!(x.state.beam.copper_word, 4);
+    }
+    x.write_xr(0x01, 0).unwrap();
+    let (running, word) = (x.state.beam.copper_running, x.state.beam.copper_word);
+    assert_eq!((running, word), (0, 0));
 }
 
 #[test]
@@ -75,6 +128,7 @@ fn a_refusal_is_an_error_and_changes_nothing() {
     assert_eq!(x, before);
     assert_eq!(Refusal(4).to_string(), "refusal 4: register number over 15");
     assert_eq!(Adapter::new(300).blit_step(), Err(Refusal(1)));
+    assert_eq!(Adapter::new(300).beam_step(), Err(Refusal(1)));
     x.state.status = 128;
     assert_eq!(x.interrupt_line(), Err(Refusal(3)));
     assert_eq!(x.timer_tick(), Err(Refusal(3)));
@@ -110,6 +164,21 @@ fn a_save_leaves_the_room_behind_the_file() {
     let mut short = vec![0xA5; file.len() - 1];
     assert_eq!(x.save(&mut short), Err(Refusal(7)));
     assert!(short.iter().all(|&byte| byte == 0xA5));
+}
+
+#[test]
+fn only_an_adapter_at_rest_is_saved() {
+    let mut x = Adapter::new(256);
+    let file = x.saved().unwrap();
+    x.beam_step().unwrap();
+    assert_eq!(x.saved(), Err(Refusal(10)));
+    assert_eq!(x.save(&mut [0; 14_001]), Err(Refusal(7)));
+    assert_eq!(
+        Refusal(10).to_string(),
+        "refusal 10: beam or copper not at rest"
+    );
+    x.load(&file).unwrap();
+    assert_eq!(x, Adapter::new(256));
 }
 
 #[test]

@@ -31,10 +31,10 @@ fn ten(b: &xosera::BlitRegs) -> [u16; 10] {
 
 #[test]
 fn each_field_is_the_word_of_its_number() {
-    assert_eq!((size_of::<State>(), align_of::<State>()), (150, 2));
+    assert_eq!((size_of::<State>(), align_of::<State>()), (158, 2));
     let s = numbered();
     let (xr, vram, timer) = (s.host.xr, s.host.vram, s.host.timer);
-    let (e, v) = (s.engine, s.video);
+    let (e, v, beam) = (s.engine, s.video, s.beam);
     let mut fields = s.host.latch.to_vec();
     fields.extend([xr.rd_xaddr.0, xr.wr_xaddr.0, xr.rd_xdata]);
     fields.extend([vram.rd_incr, vram.rd_addr.0, vram.wr_incr, vram.wr_addr.0]);
@@ -46,6 +46,8 @@ fn each_field_is_the_word_of_its_number() {
     fields.extend([v.vid_ctrl, v.copp_ctrl, v.aud_ctrl, v.vid_left, v.vid_right]);
     fields.extend(v.pa.iter().chain(&v.pb));
     fields.extend(ten(&s.blit));
+    fields.extend([beam.line, beam.position]);
+    fields.extend([beam.copper_running, beam.copper_word]);
     assert_eq!(fields, s.words());
     assert_eq!(State::from_words(*s.words()), s);
 }
@@ -57,7 +59,9 @@ fn a_field_set_is_a_word_set() {
     assert_eq!(s.words().iter().filter(|&&w| w != 0).count(), 2);
     s.host.latch[15] = 0xFFFF;
     s.blit.words = 0x8000;
+    s.beam.copper_word = 1023;
     assert_eq!((s.words()[15], s.words()[74]), (0xFFFF, 0x8000));
+    assert_eq!(s.words()[78], 1023);
 }
 
 #[test]
@@ -84,12 +88,14 @@ fn answers_are_laid_out_as_in_c() {
     assert_eq!((size_of::<ReadAnswer>(), size_of::<LineAnswer>()), (2, 2));
 }
 
-/// Words that no flag or byte can be are refused, and stay.
+/// Words that no flag or byte can be, nor a beam or a stopped copper, are refused, and stay.
 #[test]
 fn words_out_of_range_are_refused() {
     let mut x = xosera::Adapter::new(256);
     let file = x.saved().unwrap();
-    for (number, word) in [(0, 256), (15, 0x8000), (28, 256), (30, 2), (32, 0x0100)] {
+    let bytes_and_flags = [(0, 256), (15, 0x8000), (28, 256), (30, 2), (32, 0x0100)];
+    let beam_and_copper = [(75, 525), (76, 800), (77, 1), (77, 2), (78, 1)];
+    for (number, word) in bytes_and_flags.into_iter().chain(beam_and_copper) {
         let mut words = *State::reset().words();
         words[number] = word;
         x.state = State::from_words(words);
@@ -98,7 +104,7 @@ fn words_out_of_range_are_refused() {
         assert_eq!(x.read_byte(2, false), Err(xosera::Refusal(3)));
         assert_eq!(x.blit_run(10), Err(xosera::Refusal(3)));
         assert_eq!(x.timer_tick(), Err(xosera::Refusal(3)));
-        assert_eq!(x.frame_end(), Err(xosera::Refusal(3)));
+        assert_eq!(x.beam_step(), Err(xosera::Refusal(3)));
         assert_eq!(x.interrupt_line(), Err(xosera::Refusal(3)));
         assert_eq!(x.saved(), Err(xosera::Refusal(3)));
         assert_eq!(x.load(&file), Err(xosera::Refusal(3)));
