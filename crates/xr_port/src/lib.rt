@@ -44,8 +44,7 @@ fn write_high(s: &mut [u16], at: u16, w: u16)
     }
 }
 
-// A write to a register: below 0x10, 0x03 sets status bit 4 and 0x01 may stop the copper. Registers from 0x10 on are a function of
-// their own, so that the compiler puts this one into its callers.
+// A write to a register: below 0x10, 0x03 sets status bit 4 and 0x01 may stop the copper.
 pub fn write_register(s: &mut [u16], at: u16, w: u16)
     requires { ⌜ length (now s) ≡ stateWords ⌝ }
     requires { ⌜ at < 0x4000 ⌝ }
