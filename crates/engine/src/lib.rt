@@ -211,7 +211,7 @@ pub fn advance(e: Engine, word: u16) -> Engine
             running: 1,
             line: e.line + 1,
             word: 0,
-            kept: 0,
+            kept: word,
             regs,
         };
     }

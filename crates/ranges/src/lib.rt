@@ -122,6 +122,9 @@ fn running_in_range(s: &[u16; STATE_WORDS]) -> bool
     if s[WORD] > s[ENGINE_WORDS] {
         return false;
     }
+    if s[LINE] != 0 {
+        return true;
+    }
     if s[WORD] != 0 {
         return true;
     }

@@ -4,7 +4,7 @@ use Rattle.xosera.specs.Words.{wrap, bit, nibble, withoutBit, chosen, me
 use Rattle.xosera.specs.Fields.{flagBits}
 use Rattle.xosera.specs.Memories.{isVramLength, isXrLength, place, word, stored}
 use Rattle.xosera.specs.Blitter.{launched, startedEngine, isConstant, fetched, sourced, firstMask, lastWord, lastMask, testMask, writeMask}
-use Rattle.xosera.specs.Blitter.{drawing, drawn, lastStep, nextSource, nextDest, nextKept, next, succeeding, stepped, steps}
+use Rattle.xosera.specs.Blitter.{drawing, drawn, firstStep, lastStep, nextSource, nextDest, next, succeeding, stepped, steps}
 use Rattle.xosera.specs.Blitter.{stepMask, nthMask, blitWords, engineLeft, wordsLeft}
 use Rattle.xosera.specs.Plan.{changed, vramLoaded, perform}
 use Rattle.xosera.specs.XrSpace.{within, isBlitRegister, playfieldRead, registerRead, xrRead, put, videoWrite, blitWrite}
@@ -24,7 +24,7 @@ unfoldable pub computing : Unit {0}
 unfolding beamWords wrap bit nibble withoutBit chosen merged shifted combined isColour colourMask flagBits
     isVramLength isXrLength place word stored
     launched startedEngine isConstant fetched sourced firstMask lastWord lastMask testMask writeMask
-    drawing drawn lastStep nextSource nextDest nextKept next succeeding stepped steps stepMask nthMask blitWords engineLeft wordsLeft
+    drawing drawn firstStep lastStep nextSource nextDest next succeeding stepped steps stepMask nthMask blitWords engineLeft wordsLeft
     changed vramLoaded perform
     within isBlitRegister playfieldRead registerRead xrRead put videoWrite blitWrite xrMemoryWrite beamWrite xrWrite
     wordOf latched xrLoaded vramLoad writeWord writeByte shown highByte lowByte timerSaved readByte

@@ -14,7 +14,7 @@ use Rattle.xosera.specs.State.{isSet}
 use Rattle.xosera.specs.Words.{isColour, colourMask}
 use Rattle.xosera.specs.Fields.{colourTested, wholeBytes, testColour}
 use Rattle.xosera.specs.Memories.{Store, stored}
-use Rattle.xosera.specs.Blitter.{noRegs, idle, launched, fetched, firstMask, lastWord, lastMask, testMask, writeMask, lastStep, nextKept, next}
+use Rattle.xosera.specs.Blitter.{noRegs, idle, launched, fetched, firstMask, lastWord, lastMask, testMask, writeMask, firstStep, lastStep, next}
 use Rattle.xosera.specs.Blitter.{drawing, drawn, succeeding, blitWords, engineLeft}
 use Rattle.xosera.specs.Ranges.{startsEmpty, Running, runningInRange, isNoRegs, idleInRange, engineInRange}
 use Rattle.xosera.proofs.Branches.{cond-yes, cond-no, cond-either, parts}
@@ -127,7 +127,7 @@ module _ (e : Engine) (w : ℕ) (f : Running e) (h : lastStep e ≡ false) where
   word-last l = eqb-true (e .word) (e .regs .words) l
 
   pub next-running : Running (next e w)
-  unfolding next nextKept
+  unfolding next firstStep
   next-running = go (lastWord e) refl
     where
       go : (b : Bool) → lastWord e ≡ b → Running (next e w)
@@ -136,14 +136,14 @@ module _ (e : Engine) (w : ℕ) (f : Running e) (h : lastStep e ≡ false) where
         line-within = omega (arith, line-more e f l h);
         word-within = omega arith;
         lines-within = f .lines-within;
-        starts-empty = λ _. refl;
+        starts-empty = λ z. absurd (let k = simp parts at z in omega (arith, k .0));
       })
       go false l = rw l (record {
         runs = refl;
         line-within = f .line-within;
         word-within = omega (arith, word-more e f l);
         lines-within = f .lines-within;
-        starts-empty = λ z. absurd (omega arith);
+        starts-empty = λ z. absurd (let k = simp parts at z in omega (arith, k .1));
       })
 
   pub next-left : engineLeft e ≡ suc (engineLeft (next e w))

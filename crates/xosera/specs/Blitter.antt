@@ -101,7 +101,10 @@ drawing e w = record {
 unfoldable pub drawn : Engine → List ℕ → List ℕ
 drawn e vram = stored (drawing e (fetched e vram)) vram
 
--- The blit's last word.
+-- The blit's first word, and its last.
+unfoldable pub firstStep : Engine → Bool
+firstStep e = eqb (e .line) 0 && eqb (e .word) 0
+
 unfoldable pub lastStep : Engine → Bool
 lastStep e = lastWord e && eqb (e .line) (e .regs .lines)
 
@@ -117,17 +120,14 @@ nextDest e =
     let d = wrap (e .regs .dstd) 1 in
     cond (lastWord e) (wrap d (e .regs .modd)) d
 
--- Point 2: the shifter keeps the word taken, none of a constant, whole and unshifted, and starts every line empty.
-unfoldable pub nextKept : Engine → ℕ → ℕ
-nextKept e w = cond (lastWord e) 0 w
-
--- The engine after one step, from the word taken.
+-- The engine after one step, from the word taken. The shifter keeps that word, whole and unshifted, from line to line too: only a
+-- constant (`fetched`), a blit's start (`launched`) and its end (`succeeding`) empty it (point 2; document 02, request 4).
 unfoldable pub next : Engine → ℕ → Engine
 next e w = record {
   running = 1;
   line = cond (lastWord e) (e .line + 1) (e .line);
   word = cond (lastWord e) 0 (e .word + 1);
-  kept = nextKept e w;
+  kept = w;
   regs = record {
     ctrl = e .regs .ctrl;
     andc = e .regs .andc;

@@ -7,7 +7,7 @@ use lib.ListN.{replicate}
 use Rattle.xosera.specs.Fields.{colourBase, isBlank, isBitmap, pixelDepth, hRepeat, vRepeat}
 use Rattle.xosera.specs.Adapter.{Adapter, withTimer, withLatches}
 use Rattle.xosera.specs.Beam.{rest}
-use Rattle.xosera.specs.Blitter.{noRegs, idle}
+use Rattle.xosera.specs.Blitter.{noRegs, idle, moved, stepped}
 use Rattle.xosera.specs.Events.{Event, write, read, tick, beam, line, call, step, run}
 use Rattle.xosera.specs.Ranges.{resetState}
 use Rattle.xosera.specs.Sequences.{afterAll}
@@ -39,6 +39,20 @@ flagged latch saved queued running = record {
   engine = record { running = running; line = 0; word = 0; kept = 0; regs = noRegs };
   vram = replicate 256 0xFFFF;
 }
+
+-- An adapter inside a blit of two lines of two words at shift 1, by line, word, CTRL and kept word, with one VRAM word, 0x5678;
+-- and the kept word after a step.
+abbrev pub underWay : ℕ → ℕ → ℕ → ℕ → Adapter
+underWay l w ctrl kept = moved (lent 0 0 0) (record {
+  running = 1;
+  line = l;
+  word = w;
+  kept = kept;
+  regs = record { ctrl = ctrl; andc = 0; xor = 0; mods = 0; srcs = 0; modd = 0; dstd = 0; shift = 0xFF01; lines = 1; words = 1 };
+}) (0x5678 ∷ [])
+
+abbrev pub keptAfter : Adapter → ℕ
+keptAfter a = stepped a .engine .kept
 
 -- n words written to XM_XDATA, one more each time, and the low bytes of n words read there from an address on.
 abbrev pub numbered : ℕ → ℕ → List Event
@@ -72,11 +86,30 @@ xrFilled =
     afterAll (bench []) (setXr 0x4000 1 ++ setXr 0x53FF 2 ++ setWord 5 3 ++ setXr 0x8000 4 ++ setXr 0x81FF 5 ++ setWord 5 6
     ++ setXr 0xC000 7 ++ setXr 0xC3FF 8 ++ setWord 5 9)
 
--- The shifter starts every line empty; MOD_S and MOD_D are added after a line.
-abbrev pub lineStartsEmpty : Row
-lineStartsEmpty =
+-- The nibbles pushed off a line's end enter at the left of the next, those of the word taken last, whatever MOD_S passes over;
+-- MOD_S and MOD_D are added after a line.
+abbrev pub lineAfterLine : Row
+lineAfterLine =
     blitted (0x1234 ∷ 0x5678 ∷ 0x9ABC ∷ []) 4 (SRCS is 0x10 ++ MODS is 1 ++ MODD is 2 ++ SHIFT is 0xFF01 ++ LINES is 1 ++ WORDS is 0)
-    gives 0x0123 ∷ 0xFFFF ∷ 0xFFFF ∷ 0x09AB ∷ []
+    gives 0x0123 ∷ 0xFFFF ∷ 0xFFFF ∷ 0x49AB ∷ []
+
+-- A blit starts with an empty shifter, the queued one too.
+abbrev pub blitAfterBlit : Row
+blitAfterBlit =
+    seen 0 2 (bench (0x1234 ∷ 0x5678 ∷ [])) (SRCS is 0x10 ++ SHIFT is 0xFF01 ++ WORDS is 0 ++ SRCS is 0x11 ++ DSTD is 1 ++ WORDS is 0 ++ run 9 ∷ [])
+    gives 0x0123 ∷ 0x0567 ∷ []
+
+-- The kept word after a step: the word taken, at the end of a line too; none of a constant, none at a blit's end.
+abbrev pub keptWords : Row
+keptWords =
+    (keptAfter (underWay 0 0 0 0) ∷ keptAfter (underWay 0 1 0 0x1234) ∷ keptAfter (underWay 1 0 0 0x1234) ∷ keptAfter (underWay 0 1 1 0x1234)
+    ∷ keptAfter (underWay 1 1 0 0x1234) ∷ []) gives 0x5678 ∷ 0x5678 ∷ 0x5678 ∷ 0 ∷ 0 ∷ []
+
+-- Any kept word is in range, with a constant too, except on a blit's first word.
+abbrev pub keptRange : Row
+keptRange =
+    refused (underWay 0 0 0 0) (call tick ∷ []) ++ refused (underWay 0 0 0 1) (call tick ∷ []) ++ refused (underWay 0 1 0 0xFFFF) (call tick ∷ [])
+    ++ refused (underWay 1 0 0 0xFFFF) (call tick ∷ []) ++ refused (underWay 1 1 1 0xFFFF) (call tick ∷ []) gives 0 ∷ 3 ∷ 0 ∷ 0 ∷ 0 ∷ []
 
 -- The colour test is on S, not on the result.
 abbrev pub colourOfSource : Row
@@ -225,9 +258,10 @@ gfxFields =
 
 abbrev pub examples : List Row
 examples =
-    lineStartsEmpty ∷ colourOfSource ∷ colourOfShifted ∷ constantUnshifted ∷ unusedBits ∷ laterRegisters ∷ queuedRegisters ∷ stepCounts ∷ fullRegisters
-    ∷ registersReadBack ∷ blitterReadsZero ∷ xrMemories ∷ lowestRefusal ∷ stateAlone ∷ flagsAndBytes ∷ reconfigureRefused ∷ lineUpAndDown ∷ latchEach
-    ∷ dataReads ∷ maskZero ∷ stepMasks ∷ runMasks ∷ writeMasks ∷ afterReset ∷ gfxFields ∷ []
+    lineAfterLine ∷ blitAfterBlit ∷ keptWords ∷ keptRange ∷ colourOfSource ∷ colourOfShifted ∷ constantUnshifted ∷ unusedBits ∷ laterRegisters
+    ∷ queuedRegisters ∷ stepCounts ∷ fullRegisters ∷ registersReadBack ∷ blitterReadsZero ∷ xrMemories ∷ lowestRefusal ∷ stateAlone
+    ∷ flagsAndBytes ∷ reconfigureRefused ∷ lineUpAndDown ∷ latchEach ∷ dataReads ∷ maskZero ∷ stepMasks ∷ runMasks ∷ writeMasks
+    ∷ afterReset ∷ gfxFields ∷ []
 
 -- Every example gives what it should.
 abbrev pub ExamplesHold : Type 0

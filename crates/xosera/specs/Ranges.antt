@@ -10,7 +10,7 @@ use Rattle.xosera.specs.declared.BlitRegs.{BlitRegs}
 use Rattle.xosera.specs.declared.Engine.{Engine}
 use Rattle.xosera.specs.Fields.{allStatus, copperEnabled}
 use Rattle.xosera.specs.Beam.{Frame, frame, programLength, rest}
-use Rattle.xosera.specs.Blitter.{noRegs, idle}
+use Rattle.xosera.specs.Blitter.{noRegs, idle, firstStep}
 
 -- Countdown 1 to its interval, or both 0.
 unfoldable pub timerInRange : Timer → Bool
@@ -26,9 +26,9 @@ unfoldable pub hostInRange : Host → Bool
 hostInRange h =
     leb (h .vram .nibbles) 15 && leb (h .intmask) allStatus && timerInRange (h .timer) && leb (h .timer .saved) 255 && areBytes (h .latches)
 
--- Kept shifter word 0 on a line's first word.
+-- The kept shifter word must be 0 only on a blit's first word (document 02, request 4).
 unfoldable pub startsEmpty : Engine → Bool
-startsEmpty e = not (eqb (e .word) 0) || eqb (e .kept) 0
+startsEmpty e = not (firstStep e) || eqb (e .kept) 0
 
 -- Running line and word at most the copied counts, copied lines at most 32,767, and the kept word.
 unfoldable pub runningInRange : Engine → Bool
@@ -40,7 +40,7 @@ pub record Running (e : Engine) : Type 0 where
   pub line-within : e .line ≤ e .regs .lines
   pub word-within : e .word ≤ e .regs .words
   pub lines-within : e .regs .lines ≤ 32767
-  pub starts-empty : e .word ≡ 0 → e .kept ≡ 0
+  pub starts-empty : firstStep e ≡ true → e .kept ≡ 0
 
 -- Ten registers that are all 0.
 unfoldable pub isNoRegs : BlitRegs → Bool

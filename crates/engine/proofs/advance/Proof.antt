@@ -1,7 +1,7 @@
 -- The counts have room, since the word is not the blit's last.
 use mathlib.Core.Path.{sym, _∙_}
 use native.Mathlib.Omega.{arith}
-use Rattle.xosera.specs.Blitter.{nextKept, next}
+use Rattle.xosera.specs.Blitter.{next}
 use Rattle.xosera.proofs.EngineLaws.{word-more, line-more}
 use borrow.Author.Needs.{needs}
 use Rattle.engine.proofs.advance.Statement.{statement}
@@ -24,7 +24,7 @@ add-t7 c =
     omega (arith, line-more _ (start .pre .0) ends (start .pre .1), start .pre .0 .lines-within)
 
 returns : tie.Need-returns
-unfolding next nextKept
+unfolding next
 returns c =
     let at-last-word = c .before .before in
     let at-next-dest = at-last-word .before .before in
@@ -38,7 +38,7 @@ add-t8 c =
     omega (arith, word-more _ (c .before .before .before .before .before .before .pre .0) goes-on)
 
 returns-2 : tie.Need-returns-2
-unfolding next nextKept
+unfolding next
 returns-2 c =
     let at-last-word = c .before .before in
     let at-next-dest = at-last-word .before .before in

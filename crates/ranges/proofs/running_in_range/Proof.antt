@@ -1,5 +1,6 @@
 -- Each answer is the definition's, by the tests on its way.
 use Rattle.xosera.specs.State.{stateAt}
+use Rattle.xosera.specs.Blitter.{firstStep}
 use Rattle.xosera.specs.Ranges.{startsEmpty, runningInRange}
 use Rattle.ranges.proofs.RangeTests.{tests, too-many-lines}
 use borrow.Author.Needs.{needs}
@@ -37,15 +38,22 @@ element-copy-out-if4 : tie.Need-element-copy-out-if4
 element-copy-out-if4 c = search needs
 
 returns-4 : tie.Need-returns-4
-unfolding stateAt runningInRange startsEmpty
+unfolding stateAt runningInRange startsEmpty firstStep
 returns-4 c = search tests
+
+element-copy-out-if5 : tie.Need-element-copy-out-if5
+element-copy-out-if5 c = search needs
+
+returns-5 : tie.Need-returns-5
+unfolding stateAt runningInRange startsEmpty firstStep
+returns-5 c = search tests
 
 element-copy-out-result : tie.Need-element-copy-out-result
 element-copy-out-result c = search needs
 
-returns-5 : tie.Need-returns-5
-unfolding stateAt runningInRange startsEmpty
-returns-5 c = search tests
+returns-6 : tie.Need-returns-6
+unfolding stateAt runningInRange startsEmpty firstStep
+returns-6 c = search tests
 
 pub running-in-range-spec : {M : Type 1} → statement M
 running-in-range-spec =
@@ -61,5 +69,7 @@ running-in-range-spec =
     returns-3
     element-copy-out-if4
     returns-4
+    element-copy-out-if5
+    returns-5
     element-copy-out-result
-    returns-5)
+    returns-6)
