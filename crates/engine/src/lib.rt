@@ -158,8 +158,8 @@ pub fn draw(e: Engine, vram: &mut [u16]) -> Drawn
 {
     let word = fetch(e, vram);
     let s = source(e, word);
-    let bits = write_bits(e, s);
     let value = words::combined(s, e.regs.andc, e.regs.xor);
+    let bits = write_bits(e, s);
     let at = VramAddr(e.regs.dstd);
     vram::store_bits(vram, at, bits, value);
     Drawn { word, bits }

@@ -11,11 +11,11 @@ fetch-requires c κs = search needs
 source-requires : tie.Need-source-requires
 source-requires c κs = search needs
 
-write-bits-requires : tie.Need-write-bits-requires
-write-bits-requires c κs = search needs
-
 combined-requires : tie.Need-combined-requires
 combined-requires c κs = search needs
+
+write-bits-requires : tie.Need-write-bits-requires
+write-bits-requires c κs = search needs
 
 store-bits-requires : tie.Need-store-bits-requires
 store-bits-requires c κs = search needs
@@ -27,9 +27,9 @@ returns : tie.Need-returns
 unfolding drawn drawing
 returns c =
     let at-store-bits = c .before .before in
-    let at-combined = at-store-bits .before .before in
-    let at-write-bits = at-combined .before in
-    let at-source = at-write-bits .before in
+    let at-write-bits = at-store-bits .before .before in
+    let at-combined = at-write-bits .before in
+    let at-source = at-combined .before in
     let at-fetch = at-source .before in
     let start = at-fetch .before .before .before in
     let e = start .args .e in
@@ -47,8 +47,8 @@ draw-spec =
     (tie.spec
     fetch-requires
     source-requires
-    write-bits-requires
     combined-requires
+    write-bits-requires
     store-bits-requires
     same-length
     returns)
