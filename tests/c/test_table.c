@@ -1,4 +1,5 @@
-/* Document 01's bench table, line by line. Registers not named are 0, masks F, targets FFFF. */
+/* Document 01's bench table, line by line, and the line that document 02, request 4 adds. Registers
+ * not named are 0, masks F, targets FFFF. */
 #include "tests.h"
 
 enum { SOURCE = 0x10, TARGET = 0x80 };
@@ -161,6 +162,16 @@ static void full_blitter_refuses_andc(void **state)
     assert_int_equal(xm_getw(WR_XADDR), XR_BLIT_ANDC);
 }
 
+static void shifted_lines(void **state)
+{
+    xosera *x = (xosera *)*state;
+    targets(x);
+    x->vram[SOURCE] = 0x1234;
+    x->vram[SOURCE + 1] = 0x5678;
+    draws(x, (blit){.src_s = SOURCE, .shift = 0xFF01, .lines = 1},
+          (const uint16_t[]){0x0123, 0x4567}, 2);
+}
+
 int table_group(int *tests)
 {
     const struct CMUnitTest list[] = {
@@ -179,6 +190,7 @@ int table_group(int *tests)
         WITH_ADAPTER(lines_8000_is_one_line),
         WITH_ADAPTER(run_goes_on_into_the_queued_blit),
         WITH_ADAPTER(full_blitter_refuses_andc),
+        WITH_ADAPTER(shifted_lines),
     };
     return RUN_GROUP("bench table", list, tests);
 }

@@ -3,7 +3,7 @@ use crate::bench::Bench;
 use libc::STDOUT_FILENO;
 
 // Each case and the form of its outcome: @ shows the next digit told, ^ and & bits 5 and 6 of the next byte.
-const LENGTH: usize = 715;
+const LENGTH: usize = 774;
 
 const CASES: [u8; LENGTH] = *b"\
     SHIFT 7801, 3 words 1234 5678 9ABC | @@@@ @@@@ @@@@ |\
@@ -21,6 +21,7 @@ const CASES: [u8; LENGTH] = *b"\
     LINES 8000 | lines of one word: @ |\
     3 words running, 2 queued, run 4 | count @, busy ^, full &, bit 6 & |\
     queued, then write ANDC | refusal @, write address @@@@ |\
+    shift 1, two lines of one word, 1234 and 5678 | @@@@ @@@@ |\
     ";
 
 // How far the cases are printed, and how many rows were as they should be.

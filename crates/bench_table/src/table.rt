@@ -1,4 +1,4 @@
-// The rows, in the paper's order: what is done, and what it should tell.
+// The rows, in the papers' order: what is done, and what it should tell.
 use crate::bench::fresh;
 use crate::registers::*;
 use crate::report::Table;
@@ -145,4 +145,19 @@ pub fn queues(mut t: Table) -> Table {
     b = b.tell();
     b = b.word(WR_XADDR);
     t.row(0x1_5_0041, b)
+}
+
+// From line to line (document 02, request 4).
+pub fn shifted_lines(t: Table) -> Table {
+    // Shift 1, two lines of one word, sources 1234 and 5678, masks open.
+    let mut b = fresh();
+    b = b.set(WR_INCR, 1);
+    b = b.set(WR_ADDR, 0x10);
+    b = b.set(DATA, 0x1234);
+    b = b.set(DATA, 0x5678);
+    b = b.xr(LINES, 1);
+    b = b.blit(0, 0x10, 0xFF01, 0);
+    b = b.see(0);
+    b = b.see(1);
+    t.row(0x1_0123_4567, b)
 }

@@ -1,4 +1,4 @@
--- The bench table (document 01, "The bench table"), each row a list of events from reset and what is then seen.
+-- The bench table (document 01, "The bench table"; document 02, request 4), each row a list of events from reset and what is then seen.
 use mathlib.Core.Path.{_≡_}
 use mathlib.Core.Bool.{true, false}
 use mathlib.Core.List.{List, [], _∷_, _++_, map}
@@ -78,7 +78,7 @@ xs gives ys = record { given = xs; should = ys }
 abbrev pub blitted : List ℕ → ℕ → List Event → List ℕ
 blitted ws n named = seen 0 n (bench ws) (blit named ++ run 9 ∷ [])
 
--- The rows, in the paper's order. CTRL 1 makes a constant; sources need a place that is no target, 0x10.
+-- The rows, in the papers' order. CTRL 1 makes a constant; sources need a place that is no target, 0x10.
 
 -- `SHIFT` 7801, 3 words 1234 5678 9ABC.
 abbrev pub shiftedCopy : Row
@@ -149,10 +149,16 @@ fullBlitter =
     refused (afterAll (bench []) (blit (WORDS is 0 ++ WORDS is 0))) (ANDC is 0)
     ++ told (afterAll (bench []) (blit (WORDS is 0 ++ WORDS is 0) ++ ANDC is 0)) (readWord 4) gives 0 ∷ 0 ∷ 0 ∷ 5 ∷ 0x00 ∷ 0x41 ∷ []
 
+-- Document 02, request 4: shift 1, two lines of one word, sources 1234 and 5678, masks open.
+abbrev pub shiftedLines : Row
+shiftedLines =
+    blitted (0x1234 ∷ 0x5678 ∷ []) 2 (SRCS is 0x10 ++ SHIFT is 0xFF01 ++ LINES is 1 ++ WORDS is 0) gives 0x0123 ∷ 0x4567 ∷ []
+
 abbrev pub table : List Row
 table =
     shiftedCopy ∷ constantResult ∷ colourNibbles ∷ colourBytes ∷ oneWordLine ∷ constantMods ∷ overlappingCopy ∷ nibbleMask
-    ∷ bufferedRead ∷ addressWraps ∷ timerByte ∷ countdownOfTwo ∷ linesMod32768 ∷ queuedRun ∷ fullBlitter ∷ []
+    ∷ bufferedRead ∷ addressWraps ∷ timerByte ∷ countdownOfTwo ∷ linesMod32768 ∷ queuedRun ∷ fullBlitter
+    ∷ shiftedLines ∷ []
 
 -- Every row gives what it should.
 abbrev pub TableHolds : Type 0

@@ -1,4 +1,4 @@
--- Each turn takes the place one nearer to the end of the cases.
+-- Each turn takes the place one nearer to the end of the cases, which are fewer than 65,536 bytes.
 use Prim.Native.Nat.{_-_}
 use borrow.Author.Needs.{needs}
 use Rattle.bench_table.proofs.report.column.Statement.{statement}
@@ -8,7 +8,7 @@ abbrev Inv-loop : tie.InvT-loop
 Inv-loop from told digits₀ i₀ digits i = Unit
 
 abbrev μ-loop : tie.MeasureT-loop
-μ-loop from told digits₀ i₀ digits i = 715 - i
+μ-loop from told digits₀ i₀ digits i = 65536 - i
 
 cast-digits : tie.Need-cast-digits Inv-loop μ-loop
 cast-digits c = search needs
