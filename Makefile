@@ -115,6 +115,9 @@ build/sanitized/%.o: tests/c/%.c $(TESTS_H) | build/sanitized
 build/sanitized/%.o: tests/c/%.cpp $(TESTS_H) | build/sanitized
 	@echo "  c++ $<"; $(CXX) $(CXXFLAGS) $(SANITIZE) -c -o $@ $<
 
+# This test includes the example.
+build/plain/test_cross.o build/sanitized/test_cross.o: examples/cross/cross.c
+
 # The first test of docs/FIRMWARE.md, as it stands there.
 build/first_test.c: docs/FIRMWARE.md | build
 	@awk '/^```/ { inside = /^```c/ && !blocks++; next } inside' $< >$@

@@ -64,8 +64,9 @@ static void store_picture(int width)
     }
 }
 
-/* Draw the picture's first `width` columns at pixel x, y. The right mask belongs to `mask_width`,
- * which is `width` but for the fault. Colour 0 is transparent. */
+/* Draw the picture's first `width` columns at pixel x, y. The left mask holds back the nibbles that
+ * the shifter brings along from the line before. The right mask belongs to `mask_width`, which is
+ * `width` but for the fault. Colour 0 is transparent. */
 static void draw_cross(int field, int x, int y, int width, int mask_width)
 {
     const int shift = x % 4, words = (shift + width + 3) / 4, over = (shift + mask_width) % 4;

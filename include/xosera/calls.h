@@ -102,7 +102,7 @@ typedef struct xosera_engine {
     uint16_t running; /* 0 or 1 */
     uint16_t line;    /* the line and the word that come next, from 0 */
     uint16_t word;
-    uint16_t kept;         /* source word before, for the shifter; 0 on a line's first word */
+    uint16_t kept;         /* source word before, for the shifter; 0 on a blit's first word */
     xosera_blit_regs regs; /* as copied, lines mod 32,768; src_s and dst_d move on in place */
 } xosera_engine;
 

@@ -7,6 +7,7 @@ int main(void)
     failed += table_group(&tests);
     failed += rules_group(&tests);
     failed += edges_group(&tests);
+    failed += cross_group(&tests);
     failed += refusals_group(&tests);
     failed += ranges_group(&tests);
     failed += queue_group(&tests);

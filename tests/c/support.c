@@ -135,7 +135,7 @@ bool words_in_range(const uint16_t *w)
     const bool flags = w[30] <= 1 && w[32] <= 1 && w[30] <= w[32];
     const bool engine = w[32] == 0 ? idle_engine
                                    : w[33] <= w[44] && w[34] <= w[45] && w[44] <= 32767 &&
-                                         (w[34] != 0 || w[35] == 0);
+                                         (w[33] != 0 || w[34] != 0 || w[35] == 0);
     const bool beam = w[75] < 525 && w[76] < 800;
     const bool copper = w[77] == 0 ? w[78] == 0 : w[77] == 1 && w[47] >= 0x8000 && w[78] < 1024;
     return bytes && masks && countdown && flags && engine && beam && copper;

@@ -157,6 +157,39 @@ static void a_stale_right_mask_shows(void **state)
     }
 }
 
+/* A left mask left open, though the picture is shifted: left of it the first line shows colour 0,
+ * and each other line the last pixels that the line before took and did not draw. */
+static void copy_with_an_open_left_edge(xosera *x, const uint16_t *before, int offset, int width)
+{
+    uint16_t want[1024];
+    const int words = words_for(offset, width);
+    memcpy(want, before, sizeof want);
+    for (int y = 0; y < LINES; y++) {
+        const int source = SOURCE + y * PITCH;
+        for (int i = 0; i < offset; i++) {
+            const int from = 4 * words - offset + i;
+            const int colour = y == 0 ? 0x0 : get_pixel(before, source - PITCH, from);
+            set_pixel(want, TARGET + y * PITCH, i, colour);
+        }
+        for (int i = 0; i < width; i++) {
+            set_pixel(want, TARGET + y * PITCH, offset + i, get_pixel(before, source, i));
+        }
+    }
+    const blit b = {.mod_s = (uint16_t)(PITCH - words),
+                    .src_s = SOURCE,
+                    .mod_d = (uint16_t)(PITCH - words),
+                    .dst_d = TARGET,
+                    .shift = MAKE_BLIT_SHIFT(0xF, last_mask(offset, width), offset),
+                    .lines = LINES - 1,
+                    .words = (uint16_t)(words - 1)};
+    compare(x, before, &b, want, offset, width);
+}
+
+static void open_left_edges_show_the_line_before(void **state)
+{
+    every_edge((xosera *)*state, copy_with_an_open_left_edge);
+}
+
 int edges_group(int *tests)
 {
     const struct CMUnitTest list[] = {
@@ -164,6 +197,7 @@ int edges_group(int *tests)
         WITH_ADAPTER(shifted_copies_end_on_the_pixel),
         WITH_ADAPTER(transparent_copies_end_on_the_pixel),
         WITH_ADAPTER(a_stale_right_mask_shows),
+        WITH_ADAPTER(open_left_edges_show_the_line_before),
     };
     return RUN_GROUP("edges", list, tests);
 }

@@ -387,11 +387,11 @@ static void the_engine_is_in_its_place(void **state)
     assert_int_equal(xosera_step(x), 1);
     assert_state_equal(&x->state, &want);
 
-    /* A step at a line's end moves the line on and adds both modulos. */
+    /* A step at a line's end moves the line on, adds both modulos and keeps the source word. */
     s.engine.word = s.engine.regs.words;
     want = s;
     want.engine.word = 0;
-    want.engine.kept = 0;
+    want.engine.kept = x->vram[s.engine.regs.src_s % x->vram_len];
     want.engine.line++;
     want.engine.regs.src_s = (uint16_t)(s.engine.regs.src_s + 1 + s.engine.regs.mod_s);
     want.engine.regs.dst_d = (uint16_t)(s.engine.regs.dst_d + 1 + s.engine.regs.mod_d);
@@ -422,7 +422,6 @@ static void the_engine_draws_by_its_fields(void **state)
     xosera *x = (xosera *)*state;
     xosera_state s = in_range();
     s.engine.word = 0;
-    s.engine.kept = 0;
     s.engine.regs.ctrl = 0x0001;
     s.engine.regs.src_s = 0x0F3C;
     s.engine.regs.andc = 0x00FF;

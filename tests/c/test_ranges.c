@@ -38,17 +38,27 @@ static const range while_idle[] = {
 static const range while_running[] = {
     RANGE(host.timer.countdown, 1, 300), RANGE(host.timer.interval, 300, 65535),
     RANGE(queued, 0, 1),                 RANGE(engine.running, 1, 1),
-    RANGE(engine.line, 0, 20),           RANGE(engine.word, 1, 40), /* 0 with a word kept is wrong */
+    RANGE(engine.line, 0, 20),           RANGE(engine.word, 0, 40),
     RANGE(engine.kept, 0, 65535),        RANGE(engine.regs.lines, 10, 32767),
     RANGE(engine.regs.words, 30, 65535),
 };
 
-/* At the last line's first word, as set up by at_first_word. */
+/* On line 0 and on the last line's first word, with a word kept: not on the blit's first word. */
+static const range on_line_0[] = {
+    RANGE(engine.line, 0, 20),           RANGE(engine.word, 1, 40),
+    RANGE(engine.kept, 0, 65535),        RANGE(engine.regs.lines, 0, 32767),
+    RANGE(engine.regs.words, 30, 65535),
+};
 static const range at_line_start[] = {
-    RANGE(host.timer.countdown, 1, 300), RANGE(host.timer.interval, 300, 65535),
-    RANGE(queued, 0, 1),                 RANGE(engine.running, 1, 1),
+    RANGE(engine.line, 1, 20),           RANGE(engine.word, 0, 40),
+    RANGE(engine.kept, 0, 65535),        RANGE(engine.regs.lines, 20, 32767),
+    RANGE(engine.regs.words, 0, 65535),
+};
+
+/* On the blit's first word, where none is kept. */
+static const range at_blit_start[] = {
     RANGE(engine.line, 0, 20),           RANGE(engine.word, 0, 40),
-    RANGE(engine.kept, 0, 0),            RANGE(engine.regs.lines, 20, 32767),
+    RANGE(engine.kept, 0, 0),            RANGE(engine.regs.lines, 0, 32767),
     RANGE(engine.regs.words, 0, 65535),
 };
 
@@ -75,12 +85,12 @@ static const range at_word_10[] = {
 };
 /* clang-format on */
 
-static xosera_state at_first_word(void)
+static xosera_state running_at(uint16_t line, uint16_t word, uint16_t kept)
 {
     xosera_state s = mid_line_state();
-    s.engine.line = 20;
-    s.engine.word = 0;
-    s.engine.kept = 0;
+    s.engine.line = line;
+    s.engine.word = word;
+    s.engine.kept = kept;
     return s;
 }
 
@@ -199,7 +209,9 @@ static void a_running_engine_has_its_bounds(void **state)
 {
     (void)state;
     EVERY_BOUND(mid_line_state(), while_running);
-    EVERY_BOUND(at_first_word(), at_line_start);
+    EVERY_BOUND(running_at(0, 30, 0xBEEF), on_line_0);
+    EVERY_BOUND(running_at(20, 0, 0xBEEF), at_line_start);
+    EVERY_BOUND(running_at(0, 0, 0), at_blit_start);
 }
 
 static void beam_and_copper_have_their_bounds(void **state)
@@ -343,12 +355,13 @@ static void words_are_served_or_refused(const xosera *x, const uint16_t *words, 
 static void random_words_are_served_or_refused(void **state)
 {
     xosera *x = (xosera *)*state;
-    const xosera_state starts[] = {idle_state(), mid_line_state(), at_first_word(), copper_state()};
+    const xosera_state starts[] = {idle_state(), mid_line_state(), running_at(0, 0, 0),
+                                   running_at(20, 0, 0xBEEF), copper_state()};
     uint16_t words[XOSERA_STATE_WORDS];
     int served = 0;
     for (int round = 0; round < 3000; round++) {
         const int damaged = round % 4; /* 0: all of them */
-        memcpy(words, &starts[round / 8 % 4], sizeof words);
+        memcpy(words, &starts[round / 8 % 5], sizeof words);
         for (int i = 0; i < (damaged == 0 ? XOSERA_STATE_WORDS : damaged); i++) {
             const int which = damaged == 0 ? i : random_word() % XOSERA_STATE_WORDS;
             words[which] = round % 8 < 4 ? random_word() : telling[random_word() % TELLING];

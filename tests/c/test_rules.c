@@ -1,5 +1,5 @@
-/* Rules that are easily got wrong: document 01's "Errors that look right", and the edges of the XR
- * space. */
+/* Rules that are easily got wrong: document 01's "Errors that look right", the shifter from line to
+ * line (document 02, request 4), and the edges of the XR space. */
 #include "tests.h"
 
 enum { SOURCE = 0x40, TARGET = 0x80 };
@@ -64,18 +64,66 @@ static void the_word_before_is_kept_at_any_shift(void **state)
     }
 }
 
-static void the_shifter_starts_every_line_empty(void **state)
+/* Word i of the words at SOURCE, shifted as one long line. */
+static uint16_t in_one_line(const xosera *x, int i, int shift)
+{
+    const uint32_t before = i > 0 ? x->vram[SOURCE + i - 1] : 0;
+    return (uint16_t)((before << 16 | x->vram[SOURCE + i]) >> 4 * shift);
+}
+
+/* With modulos 0 and masks open, a blit of lines is shifted as one long line, in single steps and
+ * in a run. */
+static void the_shifter_goes_on_from_line_to_line(void **state)
 {
     xosera *x = (xosera *)*state;
+    for (int shift = 0; shift < 4; shift++) {
+        for (uint16_t words = 0; words < 4; words++) {
+            const blit b = {.src_s = SOURCE,
+                            .dst_d = TARGET,
+                            .shift = MAKE_BLIT_SHIFT(0xF, 0xF, shift),
+                            .lines = 2,
+                            .words = words};
+            const int all = 3 * (words + 1);
+            start_blit(x, &b);
+            for (int i = 0; i < all; i++) {
+                assert_int_equal(x->state.engine.kept, i > 0 ? x->vram[SOURCE + i - 1] : 0);
+                assert_int_equal(xosera_step(x), 1);
+                assert_int_equal(x->vram[TARGET + i], in_one_line(x, i, shift));
+            }
+            assert_int_equal(x->state.engine.kept, 0);
+            memset(x->vram + TARGET, 0, (size_t)all * sizeof x->vram[0]);
+            start_blit(x, &b);
+            assert_int_equal(xosera_run(x, UINT64_MAX), all);
+            for (int i = 0; i < all; i++) {
+                assert_int_equal(x->vram[TARGET + i], in_one_line(x, i, shift));
+            }
+        }
+    }
+}
+
+static void a_queued_blit_starts_with_an_empty_shifter(void **state)
+{
+    xosera *x = (xosera *)*state;
+    const uint16_t shift = MAKE_BLIT_SHIFT(0xF, 0xF, 1);
     x->vram[SOURCE] = 0x1234;
     x->vram[SOURCE + 1] = 0x5678;
-    start_blit(x, &(blit){.src_s = SOURCE,
-                          .dst_d = TARGET,
-                          .shift = MAKE_BLIT_SHIFT(0xF, 0xF, 1),
-                          .lines = 1});
+    start_blit(x, &(blit){.src_s = SOURCE, .dst_d = TARGET, .shift = shift});
+    start_blit(x, &(blit){.src_s = SOURCE + 1, .dst_d = TARGET + 1, .shift = shift});
     xwait_blit_done();
     assert_int_equal(x->vram[TARGET], 0x0123);
     assert_int_equal(x->vram[TARGET + 1], 0x0567);
+}
+
+/* A word kept from the line before, and then a constant. */
+static void a_constant_empties_the_shifter(void **state)
+{
+    xosera *x = (xosera *)*state;
+    x->state = mid_line_state();
+    x->state.engine.word = 0;
+    x->state.engine.regs.ctrl = BLIT_CTRL_S_CONST_F;
+    assert_int_equal(x->state.engine.kept, 0xBEEF);
+    assert_int_equal(xosera_step(x), 1);
+    assert_int_equal(x->state.engine.kept, 0);
 }
 
 static void blits_wrap_at_the_end_of_vram(void **state)
@@ -138,7 +186,9 @@ int rules_group(int *tests)
         WITH_ADAPTER(colour_is_tested_on_the_shifted_word),
         WITH_ADAPTER(a_constant_is_not_shifted),
         WITH_ADAPTER(the_word_before_is_kept_at_any_shift),
-        WITH_ADAPTER(the_shifter_starts_every_line_empty),
+        WITH_ADAPTER(the_shifter_goes_on_from_line_to_line),
+        WITH_ADAPTER(a_queued_blit_starts_with_an_empty_shifter),
+        WITH_ADAPTER(a_constant_empties_the_shifter),
         WITH_ADAPTER(blits_wrap_at_the_end_of_vram),
         WITH_ADAPTER(xr_memories_end_where_they_should),
     };

@@ -441,6 +441,30 @@ static void every_byte_of_an_idle_adapter_counts(void **state)
     every_byte_counts(idle_state());
 }
 
+/* A word kept from the line before is saved and loaded. With its line changed to 0 it would be on
+ * the blit's first word, where the shifter is empty: no adapter's file. On the second word it is
+ * one. */
+static void a_word_kept_from_the_line_before(void **state)
+{
+    (void)state;
+    enum { LINE_AT = XOSERA_FILE_STATE_AT + 2 * 33, WORD_AT = LINE_AT + 2 };
+    xosera_state s = mid_line_state();
+    s.engine.word = 0;
+    there_and_back(s);
+    xosera *x = adapter_in(s, 256), *into = another(256);
+    const bytes file = file_of(x);
+    memset(file.at + LINE_AT, 0, 2);
+    assert_load_refused(into, file, XOSERA_NO_SAVED_ADAPTER);
+    file.at[WORD_AT + 1] = 1;
+    assert_int_equal(load_from(into, file), XOSERA_DONE);
+    assert_int_equal(into->state.engine.line, 0);
+    assert_int_equal(into->state.engine.word, 1);
+    assert_int_equal(into->state.engine.kept, 0xBEEF);
+    free(file.at);
+    adapter_free(x);
+    adapter_free(into);
+}
+
 /* After any number of words, of the first blit or of the queued one: saved, loaded into another
  * adapter and finished, all is as if nobody had saved. */
 static void a_blit_goes_on_after_a_load(void **state)
@@ -451,7 +475,7 @@ static void a_blit_goes_on_after_a_load(void **state)
                           .src_s = 0x3F8,
                           .mod_d = 1,
                           .dst_d = 0x3FB, /* over the source and the end of VRAM */
-                          .shift = MAKE_BLIT_SHIFT(0x7, 0xC, 1),
+                          .shift = MAKE_BLIT_SHIFT(0xF, 0xC, 1), /* open to the line before */
                           .lines = 3,
                           .words = 4};
     const blit constant = {.ctrl = BLIT_CTRL_S_CONST_F,
@@ -517,6 +541,7 @@ int saved_group(int *tests)
         cmocka_unit_test(the_memories_have_their_lengths),
         cmocka_unit_test(every_byte_of_a_busy_adapter_counts),
         cmocka_unit_test(every_byte_of_an_idle_adapter_counts),
+        cmocka_unit_test(a_word_kept_from_the_line_before),
         WITH_ADAPTER(a_blit_goes_on_after_a_load),
         WITH_ADAPTER(accesses_go_on_after_a_load),
     };

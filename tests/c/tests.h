@@ -76,6 +76,7 @@ void set_beam(xosera *x, uint16_t line, uint16_t position);
 int table_group(int *tests);
 int rules_group(int *tests);
 int edges_group(int *tests);
+int cross_group(int *tests);
 int refusals_group(int *tests);
 int ranges_group(int *tests);
 int queue_group(int *tests);
