@@ -513,10 +513,10 @@ impl Calls {
             if r.flip() {
                 e.line = r.below(u64::from(e.regs.lines) + 1) as u16;
             }
-            if r.one_in(4) {
+            if r.flip() {
                 e.word = 0;
             }
-            if e.word == 0 {
+            if e.line == 0 && e.word == 0 {
                 e.kept = 0;
             }
             if s.queued == 1 && r.flip() {
@@ -565,6 +565,7 @@ impl Calls {
             }
             9 => {
                 s.engine.running = 1;
+                s.engine.line = 0;
                 s.engine.word = 0;
                 s.engine.kept = 1 + r.below(0xFFFF) as u16;
             }

@@ -311,7 +311,7 @@ fn frames_of_instructions() {
 fn end_blit(both: &mut Both) -> u64 {
     let engine = &mut both.state.engine;
     (engine.line, engine.word) = (engine.regs.lines, engine.regs.words);
-    if engine.word == 0 {
+    if engine.line == 0 && engine.word == 0 {
         engine.kept = 0;
     }
     both.call(Call::Run { n: 1 }).value

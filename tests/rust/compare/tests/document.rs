@@ -158,7 +158,8 @@ impl Row {
                 let most = of(to.strip_suffix(", or both 0").expect("or both 0"));
                 (1..=most).contains(&value) || (value, most) == (0, 0)
             } else if let Some(at) = part.strip_prefix("0 where ") {
-                value == 0 || of(at.strip_suffix(" is 0").expect("is 0")) != 0
+                let fields = at.strip_suffix(" are 0").expect("are 0");
+                value == 0 || fields.split(" and ").any(|field| of(field) != 0)
             } else {
                 panic!("range of {}: {}", self.field, part)
             }

@@ -28,6 +28,10 @@ struct Tally {
     edges: Vec<u64>,
     words: u64,
     shifted: u64,
+    /// Steps and runs whose first word takes nibbles from the line before, and those with a constant that
+    /// empties the shifter.
+    carried: u64,
+    emptied: u64,
     constant: u64,
     colour: u64,
     one_word_lines: u64,
@@ -36,6 +40,8 @@ struct Tally {
     queued: u64,
     followed: u64,
     idle: u64,
+    /// Calls refused for a word kept on a blit's first word, and for nothing else.
+    kept_at_start: u64,
     expired: u64,
     line_up: u64,
     /// Saves by room, and by what they said.
@@ -47,8 +53,9 @@ struct Tally {
     files: [u64; 13],
     loaded: [u64; 13],
     loads: [u64; 11],
-    /// Loads that brought beam or copper to rest.
+    /// Loads that brought beam or copper to rest, and that gave a kept word on a later line's first word.
     rested: u64,
+    loaded_kept: u64,
     /// States with one word alone that does not fit its byte or flag, by `NARROW`.
     misfits: [u64; 23],
     masks: Masks,
@@ -98,8 +105,22 @@ impl Tally {
             self.misfits[i] += 1;
         }
         self.count_beam(before, after, call, said);
+        self.count_shifter(before, stepping, said);
         self.expired += u64::from(call == Call::Tick && before.host.timer.countdown == 1);
         self.line_up += u64::from(call == Call::Line && value == 1);
+    }
+
+    fn count_shifter(&mut self, before: &xosera::State, stepping: bool, said: Said) {
+        let e = &before.engine;
+        if stepping && said.value > 0 {
+            self.carried += u64::from(shows_line_before(e));
+            self.emptied += u64::from(e.regs.ctrl & 1 == 1 && e.kept != 0);
+        }
+        if said.refusal == 3 && e.running == 1 {
+            let mut empty = *before;
+            empty.engine.kept = 0;
+            self.kept_at_start += u64::from(in_range(empty.words()));
+        }
     }
 
     fn count_beam(
@@ -165,6 +186,10 @@ impl Tally {
             self.shifted, self.constant, self.colour, self.one_word_lines, self.wrapped
         );
         println!(
+            "  shifter    nibbles from the line before {}, emptied by a constant {}, kept word on a blit's first word refused {}, loaded on a later line's {}",
+            self.carried, self.emptied, self.kept_at_start, self.loaded_kept
+        );
+        println!(
             "  host       countdown expired {}, line up {}, XR edges written at least {} times each",
             self.expired,
             self.line_up,
@@ -218,6 +243,10 @@ impl Tally {
             &self.blanks[..],
             &[
                 self.shifted,
+                self.carried,
+                self.emptied,
+                self.kept_at_start,
+                self.loaded_kept,
                 self.constant,
                 self.colour,
                 self.one_word_lines,
@@ -238,6 +267,15 @@ impl Tally {
             "some situation came up fewer than 20 times: the choice of calls needs a look"
         );
     }
+}
+
+/// Does a nibble, other than 0, that was pushed off the end of the line before come under an open first
+/// mask in the next step?
+fn shows_line_before(e: &xosera::Engine) -> bool {
+    let from_vram = e.regs.ctrl & 1 == 0;
+    let entering = u32::from(e.kept) << (16 - 4 * (e.regs.shift & 3)) & 0xFFFF;
+    let open = (0..4).any(|i| e.regs.shift >> (12 + i) & 1 == 1 && entering >> (4 * i) & 15 != 0);
+    from_vram && e.line > 0 && e.word == 0 && open
 }
 
 /// Names with numbers, those of 0 left out.
@@ -395,6 +433,9 @@ fn save_or_load(
         tally.loaded[which] += u64::from(said.refusal == 0);
         tally.loads[said.refusal as usize] += 1;
         tally.rested += u64::from(said.refusal == 0 && before.beam != rest.beam);
+        let e = &after.engine;
+        let kept = e.line > 0 && e.word == 0 && e.kept != 0;
+        tally.loaded_kept += u64::from(said.refusal == 0 && kept);
         (LOAD, after, said)
     };
     tally.kinds[call] += 1;

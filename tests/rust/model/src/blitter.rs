@@ -1,4 +1,5 @@
 //! "The blitter": starting, queueing, and one word at a time. Change request 2: its mask is answered.
+//! Change request 4: the shifter is emptied only when a blit starts or ends or by a constant.
 
 use crate::{masked, nibble, place, Blit, Refusal, State};
 
@@ -137,7 +138,6 @@ impl State {
         self.copied.src_s = self.copied.src_s.wrapping_add(self.copied.mod_s);
         self.copied.dst_d = self.copied.dst_d.wrapping_add(self.copied.mod_d);
         self.word = 0;
-        self.kept = 0;
         if self.line < self.copied.lines {
             self.line += 1;
             return;
@@ -150,6 +150,7 @@ impl State {
             self.running = false;
             self.copied = Blit::default();
             self.line = 0;
+            self.kept = 0;
         }
     }
 }
@@ -204,6 +205,23 @@ mod tests {
             }
         }
         (s, vec![0xFFFF; 256], vec![0; crate::XR_WORDS])
+    }
+
+    /// Shift 1, masks open, sources 1234 and 5678.
+    #[test]
+    fn the_shifter_does_not_empty_between_lines_but_between_blits() {
+        let two_lines: &[_] = &[[0, 0, 0, 0, 16, 0, 0, 0xFF01, 1, 0]];
+        let two_blits: &[_] = &[
+            [0, 0, 0, 0, 16, 0, 0, 0xFF01, 0, 0],
+            [0, 0, 0, 0, 17, 0, 1, 0xFF01, 0, 0],
+        ];
+        for (blits, second) in [(two_lines, 0x4567), (two_blits, 0x0567)] {
+            let (mut s, mut vram, xr) = started(blits);
+            vram[16..18].copy_from_slice(&[0x1234, 0x5678]);
+            assert_eq!(s.blit_run(&mut vram, &xr, 9).unwrap().count, 2);
+            assert_eq!(vram[..3], [0x0123, second, 0xFFFF]);
+            assert_eq!(s.kept, 0);
+        }
     }
 
     #[test]

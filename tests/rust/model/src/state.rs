@@ -120,7 +120,7 @@ impl State {
             self.line <= self.copied.lines
                 && self.word <= self.copied.words
                 && self.copied.lines <= 32767
-                && (self.word != 0 || self.kept == 0)
+                && (self.line != 0 || self.word != 0 || self.kept == 0)
         } else {
             self.copied == Blit::default() && self.line == 0 && self.word == 0 && self.kept == 0
         };
