@@ -11,14 +11,14 @@
 #   make bench       words and calls a second
 #   make clean       remove what this file built
 #
-# XOSERA_LIB_DIR names a folder with another libfirmware.a to use instead.
+# XOSERA_LIB_DIR names a folder with another libxosera.a to use instead.
 
 ifdef XOSERA_LIB_DIR
 override XOSERA_LIB_DIR := $(abspath $(XOSERA_LIB_DIR))
-LIB := $(XOSERA_LIB_DIR)/libfirmware.a
+LIB := $(XOSERA_LIB_DIR)/libxosera.a
 else
-XOSERA_LIB_DIR := $(abspath target/staticlib)
-LIB := target/staticlib/libfirmware.a
+XOSERA_LIB_DIR := $(abspath build)
+LIB := build/libxosera.a
 endif
 export XOSERA_LIB_DIR
 
@@ -38,13 +38,12 @@ OBJECTS    = $(TESTS_C:tests/c/%.c=build/$(1)/%.o) $(TESTS_CPP:tests/c/%.cpp=bui
 .PHONY: all lib example boot border test test-c test-headers test-rust bench clean
 all: lib example
 
-# rt does nothing where no crate has changed since it was last proved.
-lib:
-	rt staticlib firmware
+lib: $(LIB)
 
-target/staticlib/libfirmware.a: $(shell find crates -name '*.rt' -o -name '*.antt') crates.txt
+# rt names the archive after the crate.
+build/libxosera.a: $(shell find crates -type d -o -name '*.rt' -o -name '*.antt') crates.txt | build
 	rt staticlib firmware
-	@touch $@
+	cp target/staticlib/libfirmware.a $@
 
 example: build/cross
 	build/cross

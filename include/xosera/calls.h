@@ -1,5 +1,6 @@
+/* SPDX-License-Identifier: MIT */
 /*
- * State and calls: the ten calls of libfirmware.a, the state that is lent to them, what they
+ * State and calls: the ten calls of libxosera.a, the state that is lent to them, what they
  * answer and the numbers of their refusals. docs/CALLS.md says what each call does.
  */
 #ifndef XOSERA_MODEL_CALLS_H
@@ -10,6 +11,7 @@
 #include <stdint.h>
 
 #include "registers.h"
+#include "version.h"
 
 /* What a call can say. The lowest number that applies is given. A refused call leaves every word of
  * the state and of both memories as it was, a refused save every byte of the room; a refused read
@@ -186,13 +188,13 @@ typedef struct xosera_load_answer {
 #define XOSERA_AT(type, field, at)                                                                 \
     XOSERA_ASSERT(offsetof(type, field) == (at), "place of " #field " in " #type)
 #define XOSERA_WORD(number, field)                                                                 \
-    XOSERA_ASSERT(offsetof(xosera_state, field) == 2 * (number) &&                                 \
+    XOSERA_ASSERT(offsetof(xosera_state, field) == 2 * (size_t)(number) &&                         \
                       sizeof(((xosera_state *)0)->field) == 2,                                     \
                   "word " #number " of the state is " #field)
 
 XOSERA_SIZE(bool, 1);
 XOSERA_SIZE(size_t, 8);
-XOSERA_SIZE(xosera_state, 2 * XOSERA_STATE_WORDS);
+XOSERA_SIZE(xosera_state, 2 * (size_t)XOSERA_STATE_WORDS);
 XOSERA_WORD(0, host.latch[0]);
 XOSERA_WORD(15, host.latch[15]);
 XOSERA_WORD(16, host.xr.rd_xaddr.word);
@@ -270,7 +272,7 @@ XOSERA_AT(xosera_save_answer, length, 8);
 XOSERA_SIZE(xosera_load_answer, 1);
 XOSERA_AT(xosera_load_answer, refusal, 0);
 
-XOSERA_ASSERT(offsetof(xosera_state, beam) == 2 * XOSERA_FILE_STATE_WORDS,
+XOSERA_ASSERT(offsetof(xosera_state, beam) == 2 * (size_t)XOSERA_FILE_STATE_WORDS,
               "a file holds the words before the beam");
 XOSERA_ASSERT(XOSERA_FILE_XR_AT == XOSERA_FILE_STATE_AT + 2 * XOSERA_FILE_STATE_WORDS,
               "XR memory follows the state in a file");

@@ -18,6 +18,14 @@ ghost use Rattle.xosera.specs.Ranges.{resetState};
 ghost use Rattle.adapter.specs.Promises.{Does};
 ghost use Rattle.saved_file.specs.SaveLoad.{ofSave, ofLoad, Saves, Loads};
 
+// The version, 1.0.0, of which each file that includes the C header asks by this name.
+#[no_mangle]
+pub extern "C" fn xosera_header_needs_library_1_0_0() -> u32
+    ensures { λ r. ⌜ r ≡ 1000000 ⌝ }
+{
+    1000000
+}
+
 #[no_mangle]
 pub extern "C" fn xosera_reset(s: &mut [u16; STATE_WORDS])
     ensures { λ _. ⌜ stateAt (now (s .exit)) ≡ resetState ⌝ }

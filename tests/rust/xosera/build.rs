@@ -1,25 +1,24 @@
-//! Links libfirmware.a from XOSERA_LIB_DIR, or from target/staticlib of this repository.
+//! Links libxosera.a from XOSERA_LIB_DIR, or from build/ of this repository.
 
 use std::env;
 use std::path::PathBuf;
-use std::process;
 
 fn main() {
     println!("cargo:rerun-if-env-changed=XOSERA_LIB_DIR");
     let here = PathBuf::from(env::var_os("CARGO_MANIFEST_DIR").expect("set by cargo"));
     let dir = match env::var_os("XOSERA_LIB_DIR") {
         Some(dir) => PathBuf::from(dir),
-        None => here.join("../../../target/staticlib"),
+        None => here.join("../../../build"),
     };
-    let library = dir.join("libfirmware.a");
+    let library = dir.join("libxosera.a");
+    // Without the library nothing links, but `cargo clippy` needs none.
     if !library.is_file() {
-        eprintln!(
-            "{} is missing: run `make lib`, or set XOSERA_LIB_DIR",
+        println!(
+            "cargo:warning={} is missing: run `make lib`, or set XOSERA_LIB_DIR",
             library.display()
         );
-        process::exit(1);
     }
     println!("cargo:rerun-if-changed={}", library.display());
     println!("cargo:rustc-link-search=native={}", dir.display());
-    println!("cargo:rustc-link-lib=static=firmware");
+    println!("cargo:rustc-link-lib=static=xosera");
 }

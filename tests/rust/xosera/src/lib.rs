@@ -1,4 +1,4 @@
-//! Safe Rust calls to `libfirmware.a`, the model of the Xosera video adapter.
+//! Safe Rust calls to `libxosera.a`, the model of the Xosera video adapter.
 //!
 //! The functions at the top level are the library's own ten calls, with the state and the memories
 //! lent by reference.
