@@ -1,3 +1,4 @@
+/* SPDX-License-Identifier: MIT */
 /*
  * Copper programs: instructions in the spelling of Xosera's own tools, and loading them.
  *

@@ -1,3 +1,4 @@
+/* SPDX-License-Identifier: MIT */
 /*
  * Files: an adapter is saved under a name and loaded again. docs/SAVED.md has the file's layout.
  *
@@ -18,7 +19,8 @@
 #include <string.h>
 
 #include "calls.h"
-#include "handle.h"
+#include "adapter.h"
+#include "texts.h"
 
 /* How it went: done, refused by the library, or failed by the system. A refusal is also kept in the
  * handle, as that of any call; a failure is only told here, so the answer has to be looked at. */
@@ -39,16 +41,17 @@ static inline bool xosera_file_done(xosera_file_answer a)
 static inline const char *xosera_file_text(char *text, size_t size, const char *path,
                                            xosera_file_answer a)
 {
+    int length = 0;
     if (a.error != 0) {
-        snprintf(text, size, "%s: cannot %s: %s%s", path, a.step, strerror(a.error),
-                 a.left ? " (the new file is left there)" : "");
+        length = snprintf(text, size, "%s: cannot %s: %s%s", path, a.step, strerror(a.error),
+                          a.left ? " (the new file is left there)" : "");
     } else if (a.refusal != XOSERA_DONE) {
-        snprintf(text, size, "%s: refused, %d: %s", path, (int)a.refusal,
-                 xosera_refusal_text(a.refusal));
+        length = snprintf(text, size, "%s: refused, %d: %s", path, (int)a.refusal,
+                          xosera_refusal_text(a.refusal));
     } else {
-        snprintf(text, size, "%s: done", path);
+        length = snprintf(text, size, "%s: done", path);
     }
-    return text;
+    return xosera_text_made(text, size, length);
 }
 
 /* The steps of xosera_save_file and xosera_load_file, which are below. */
@@ -160,6 +163,8 @@ XOSERA_LOOK_AT_ANSWER static inline xosera_file_answer xosera_save_file(xosera *
     if (room == NULL) {
         return xosera_file_failed("get memory for the file");
     }
+    xosera_access what = xosera_asked(XOSERA_CALL_SAVE, 0, false);
+    xosera_calling(x);
     const xosera_save_answer saved =
         xosera_save(&x->state, x->vram, x->vram_len, x->xr, x->xr_len, room, XOSERA_FILE_MAX);
     xosera_file_answer a = xosera_file_went_well();
@@ -167,8 +172,10 @@ XOSERA_LOOK_AT_ANSWER static inline xosera_file_answer xosera_save_file(xosera *
         a = xosera_file_put(path, room, (size_t)saved.length);
     }
     a.refusal = saved.refusal;
-    free(room); /* before the hook, which may not return */
-    xosera_note(x, a.refusal, XOSERA_CALL_SAVE, 0, false, 0);
+    what.refusal = (xosera_refusal)saved.refusal;
+    what.count = saved.length;
+    free(room); /* before the hooks, which may not return */
+    xosera_called(x, what);
     return a;
 }
 
@@ -184,12 +191,20 @@ XOSERA_LOOK_AT_ANSWER static inline xosera_file_answer xosera_load_file(xosera *
         return xosera_file_failed("get memory for the file");
     }
     xosera_file_answer a = xosera_file_get(path, file, XOSERA_FILE_MAX + 1, &length);
-    if (a.error == 0) {
-        a.refusal =
-            xosera_load(&x->state, x->vram, x->vram_len, x->xr, x->xr_len, file, length).refusal;
+    if (a.error != 0) {
+        free(file);
+        return a;
     }
-    free(file); /* before the hook, which may not return */
-    xosera_note(x, a.refusal, XOSERA_CALL_LOAD, 0, false, 0);
+    xosera_access what = xosera_asked(XOSERA_CALL_LOAD, 0, false);
+    xosera_calling(x);
+    a.refusal =
+        xosera_load(&x->state, x->vram, x->vram_len, x->xr, x->xr_len, file, length).refusal;
+    what.refusal = (xosera_refusal)a.refusal;
+    free(file); /* before the hooks, which may not return */
+    if (a.refusal == XOSERA_DONE) {
+        xosera_changed(x);
+    }
+    xosera_called(x, what);
     return a;
 }
 

@@ -87,6 +87,8 @@ int saved_group(int *tests);
 int files_group(int *tests);
 int beam_group(int *tests);
 int copper_group(int *tests);
+int time_group(int *tests);
+int watchdog_group(int *tests);
 int api_group(int *tests);
 
 #define RUN_GROUP(name, list, count)                                                               \
