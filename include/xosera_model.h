@@ -10,6 +10,7 @@
  * xosera/passing.h    How time passes: steps, ticks, the beam, waits, the board's rates.
  * xosera/handle.h     The handle's accesses: bytes, words, longs, VRAM, XR space, pixels.
  * xosera/files.h      Files: an adapter is saved under a name and loaded again.
+ * xosera/trace.h      A trace: a line of text for every call.
  * xosera/copper.h     Copper programs: COP_WAIT_V(v), COP_MOVER(w, VID_CTRL), ...; loading one.
  * xosera/board.h      The board's spelling: xm_setw(WR_ADDR, a), vram_setw_next(w), ...
  *
@@ -28,6 +29,7 @@
 #include "xosera/passing.h"
 #include "xosera/handle.h"
 #include "xosera/files.h"
+#include "xosera/trace.h"
 #include "xosera/copper.h"
 #include "xosera/board.h"
 

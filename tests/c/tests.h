@@ -89,6 +89,7 @@ int beam_group(int *tests);
 int copper_group(int *tests);
 int time_group(int *tests);
 int watchdog_group(int *tests);
+int hooks_group(int *tests);
 int api_group(int *tests);
 
 #define RUN_GROUP(name, list, count)                                                               \
