@@ -9,6 +9,7 @@
  * xosera/adapter.h    The adapter: a state with its two memories, settings, hooks, refusals.
  * xosera/passing.h    How time passes: steps, ticks, the beam, waits, the board's rates.
  * xosera/handle.h     The handle's accesses: bytes, words, longs, VRAM, XR space, pixels.
+ * xosera/state.h      States compared and shown.
  * xosera/files.h      Files: an adapter is saved under a name and loaded again.
  * xosera/trace.h      A trace: a line of text for every call.
  * xosera/copper.h     Copper programs: COP_WAIT_V(v), COP_MOVER(w, VID_CTRL), ...; loading one.
@@ -28,6 +29,7 @@
 #include "xosera/adapter.h"
 #include "xosera/passing.h"
 #include "xosera/handle.h"
+#include "xosera/state.h"
 #include "xosera/files.h"
 #include "xosera/trace.h"
 #include "xosera/copper.h"
