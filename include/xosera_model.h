@@ -12,6 +12,8 @@
  * xosera/state.h      States compared and shown.
  * xosera/files.h      Files: an adapter is saved under a name and loaded again.
  * xosera/trace.h      A trace: a line of text for every call.
+ * xosera/recording.h  Recorded sessions: every call with its answer, as text.
+ * xosera/replay.h     A recorded session played again on another build.
  * xosera/copper.h     Copper programs: COP_WAIT_V(v), COP_MOVER(w, VID_CTRL), ...; loading one.
  * xosera/board.h      The board's spelling: xm_setw(WR_ADDR, a), vram_setw_next(w), ...
  *
@@ -32,6 +34,8 @@
 #include "xosera/state.h"
 #include "xosera/files.h"
 #include "xosera/trace.h"
+#include "xosera/recording.h"
+#include "xosera/replay.h"
 #include "xosera/copper.h"
 #include "xosera/board.h"
 

@@ -21,6 +21,7 @@ int main(void)
     failed += time_group(&tests);
     failed += watchdog_group(&tests);
     failed += hooks_group(&tests);
+    failed += recording_group(&tests);
     failed += state_group(&tests);
     failed += api_group(&tests);
     printf("C tests: %d passed, %d failed\n", tests - failed, failed);

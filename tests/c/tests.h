@@ -90,6 +90,7 @@ int copper_group(int *tests);
 int time_group(int *tests);
 int watchdog_group(int *tests);
 int hooks_group(int *tests);
+int recording_group(int *tests);
 int state_group(int *tests);
 int api_group(int *tests);
 

@@ -3,8 +3,11 @@
 pub mod calls;
 pub mod convert;
 pub mod copper;
+pub mod fields;
 pub mod files;
 pub mod masks;
 pub mod pair;
 pub mod random;
+pub mod recording;
+pub mod session;
 pub mod settings;
