@@ -146,4 +146,45 @@ static inline void xosera_board_wait(const char *file, int line, void (*wait)(xo
 /* The board's macro that loads the register base; the model has none. */
 #define xv_prep() ((void)0)
 
+/* What the board's header has and the model has not: a use is an error, which says what to write
+ * instead. A test with a function of its own by such a name takes the name back with #undef. */
+typedef struct xosera_no_register {
+    struct {
+        uint8_t h, l;
+    } b;
+} xosera_no_register;
+typedef struct xosera_no_info {
+    uint8_t none;
+} xosera_no_info;
+
+extern xosera_no_register *xosera_no_pointer;
+bool xosera_no_init(int reconfig_num);
+bool xosera_no_sync(void);
+bool xosera_no_get_info(xosera_no_info *info);
+void xosera_no_delay(uint32_t ms);
+
+#define xosera_ptr                                                                                 \
+    _Pragma("GCC error \"registers have no address here: use xm_setbh, xm_getbl and the like\"")   \
+        xosera_no_pointer
+#define XM_BASEADDR                                                                                \
+    _Pragma("GCC error \"registers have no address here: use xm_setw, xm_getw and the like\"") 0
+#define xmreg_t                                                                                    \
+    _Pragma("GCC error \"xosera_model.h replaces the board's header and has no xmreg_t\"")         \
+        xosera_no_register
+#define xosera_init                                                                                \
+    _Pragma("GCC error \"no xosera_init here: the test calls xosera_reset(&adapter.state)\"")      \
+        xosera_no_init
+#define xosera_sync                                                                                \
+    _Pragma("GCC error \"no xosera_sync here: the adapter in use is always present\"")             \
+        xosera_no_sync
+#define xosera_info_t                                                                              \
+    _Pragma("GCC error \"no xosera_info_t here: the model has no description of itself\"")         \
+        xosera_no_info
+#define xosera_get_info                                                                            \
+    _Pragma("GCC error \"no xosera_get_info here: the model has no description of itself\"")       \
+        xosera_no_get_info
+#define xv_delay                                                                                   \
+    _Pragma("GCC error \"no xv_delay here: poll xm_getw(TIMER), or tick in the test\"")            \
+        xosera_no_delay
+
 #endif /* XOSERA_MODEL_BOARD_H */

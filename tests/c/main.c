@@ -24,6 +24,7 @@ int main(void)
     failed += recording_group(&tests);
     failed += state_group(&tests);
     failed += api_group(&tests);
+    failed += board_group(&tests);
     printf("C tests: %d passed, %d failed\n", tests - failed, failed);
     return failed == 0 ? 0 : 1;
 }

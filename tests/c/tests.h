@@ -93,6 +93,7 @@ int hooks_group(int *tests);
 int recording_group(int *tests);
 int state_group(int *tests);
 int api_group(int *tests);
+int board_group(int *tests);
 
 #define RUN_GROUP(name, list, count)                                                               \
     (*(count) += (int)(sizeof(list) / sizeof((list)[0])),                                          \

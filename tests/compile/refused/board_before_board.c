@@ -1,0 +1,4 @@
+/* refused: takes the place of the board's xosera_m68k_api.h: include one, not both */
+#include "../board/xosera_m68k_api.h"
+
+#include "xosera/board.h"
