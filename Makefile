@@ -1,14 +1,21 @@
 # The host side of the model: library, example, tests, benchmark.
 #
-#   make lib         prove the Rattle crates and build the library
+#   make lib         prove the Rattle crates and build the library, build/libxosera.a
 #   make example     draw the cross, and the cross with last spring's fault
 #   make boot        boot once and save the adapter, then load it instead
 #   make border      change the border in mid-frame by a copper list, and by one that waits for a wrong line
-#   make test-c      the C tests: each header alone; all tests plain, under ASan and UBSan, under valgrind;
-#                    the examples, those of docs/ too
+#   make polling     wait in loops of the firmware's own, recorded, and play the recording
+#   make test-c      the C tests: each header alone; programs that must not compile; all tests plain, by clang, under
+#                    ASan and UBSan, under valgrind; the examples; the C of README.md and docs/; recordings
+#                    played on libraries with a rule changed
 #   make test-rust   the library against a plain Rust model, call by call;
 #                    XOSERA_CALLS=100000000 for a long run, XOSERA_SEED=n for the same calls again
+#   make test-install  install to a temporary folder and build against it: by flags, pkg-config, CMake
+#   make lint        formats, shellcheck, clippy, clang-tidy, and that all places state one version
 #   make bench       words and calls a second
+#   make install     header, library, pkg-config file, CMake package and documents to PREFIX, /usr/local
+#                    if not given, below DESTDIR if given; make uninstall removes them
+#   make dist        the same as build/dist/xosera-VERSION-x86_64-linux.tar.gz, for those without Rattle
 #   make clean       remove what this file built
 #
 # XOSERA_LIB_DIR names a folder with another libxosera.a to use instead.
@@ -21,6 +28,10 @@ XOSERA_LIB_DIR := $(abspath build)
 LIB := build/libxosera.a
 endif
 export XOSERA_LIB_DIR
+
+VERSION := $(shell sed -n 's/.* XOSERA_VERSION  *"\(.*\)"$$/\1/p' include/xosera/version.h)
+PREFIX  := /usr/local
+DESTDIR :=
 
 WARN     := -Wall -Wextra -Wpedantic -Werror
 CFLAGS   := -std=c11 -O1 -gdwarf-4 $(WARN) -Iinclude
@@ -35,12 +46,13 @@ TESTS_CPP := $(wildcard tests/c/*.cpp)
 TESTS_H   := $(HEADER) $(wildcard tests/c/*.h)
 OBJECTS    = $(TESTS_C:tests/c/%.c=build/$(1)/%.o) $(TESTS_CPP:tests/c/%.cpp=build/$(1)/%.o)
 
-.PHONY: all lib example boot border test test-c test-headers test-rust bench clean
+.PHONY: all lib example boot border polling test test-c test-headers test-rust test-install lint bench
+.PHONY: install uninstall dist clean
 all: lib example
 
 lib: $(LIB)
 
-# rt names the archive after the crate.
+# rt names the archive after the crate. It proves crate firmware, in 12 s, and the crates below it that have changed.
 build/libxosera.a: $(shell find crates -type d -o -name '*.rt' -o -name '*.antt') crates.txt | build
 	rt staticlib firmware
 	cp target/staticlib/libfirmware.a $@
@@ -57,22 +69,25 @@ boot: build/boot
 border: build/border
 	build/border
 
-build/cross: examples/cross/cross.c $(HEADER) $(LIB) | build
-	@echo "  cc $<"; $(CC) $(CFLAGS) -o $@ $< $(LIB)
-build/boot: examples/boot/boot.c $(HEADER) $(LIB) | build
-	@echo "  cc $<"; $(CC) $(CFLAGS) -o $@ $< $(LIB)
-build/border: examples/border/border.c $(HEADER) $(LIB) | build
+polling: build/polling build/replay
+	build/polling -r build/polling.txt
+	build/replay build/polling.txt
+
+EXAMPLES := $(patsubst examples/%,build/%,$(wildcard examples/*))
+.SECONDEXPANSION:
+$(EXAMPLES): build/%: examples/%/$$*.c $(HEADER) $(LIB) | build
 	@echo "  cc $<"; $(CC) $(CFLAGS) -o $@ $< $(LIB)
 
-test: test-c test-rust
+test: test-c test-rust test-install
 
 # Runs $(1) and prints its last line, or all that did not go well.
 run_tests = $(1) >$(2) 2>&1 || { grep -v -e ' RUN ' -e ' OK ' $(2); exit 1; }; tail -n 1 $(2)
 
-test-c: test-headers build/plain/tests build/sanitized/tests build/cross build/boot build/border \
-	    build/first_test build/calls
+test-c: test-headers test-compile test-docs test-replay build/plain/tests build/clang/tests build/sanitized/tests $(EXAMPLES)
 	@printf 'plain: '
 	@$(call run_tests,build/plain/tests,build/plain/log)
+	@printf 'by clang: '
+	@$(call run_tests,build/clang/tests,build/clang/log)
 	@printf 'AddressSanitizer and UBSan: '
 	@$(call run_tests,build/sanitized/tests,build/sanitized/log)
 	@printf 'valgrind: '
@@ -84,62 +99,116 @@ test-c: test-headers build/plain/tests build/sanitized/tests build/cross build/b
 	@echo "examples/cross shows fault and single steps as in its fault.txt, steps.txt and fault_steps.txt"
 	@build/border | diff examples/border/border.txt -
 	@echo "examples/border changes the border where its border.txt says"
+	@build/polling -r build/session.txt | diff examples/polling/polling.txt -
+	@printf 'examples/polling and replay: '
+	@$(call run_tests,build/replay build/session.txt,build/replay.log)
+	@build/replay tests/recordings/*
+	@rm -f build/session.txt
 	@rm -f build/quick.saved
 	@printf 'examples/boot: '
 	@$(call run_tests,{ build/boot build/quick.saved 1 && build/boot build/quick.saved 1; },build/boot.log)
-	@printf 'docs/FIRMWARE.md: '
-	@build/first_test
-	@cd build && ./calls && echo "docs/CALLS.md: the examples hold"
 
-# Each header included alone. It needs no library.
+# What must not compile beside the header, or with it.
+.PHONY: test-compile
+test-compile:
+	@tests/compile/run.sh
+
+# Each header included alone, without the warnings that a strict project asks for. It needs no library.
+STRICT := -Wconversion -Wsign-conversion -Wshadow -Wcast-qual -Wcast-align -Wundef -Wformat=2 -Wredundant-decls \
+	  -Wwrite-strings
 test-headers:
 	@for header in $(HEADER:include/%=%); do \
-	    printf '#include "%s"\n' $$header | $(CC) $(CFLAGS) -fsyntax-only -x c - && \
-	    printf '#include "%s"\n' $$header | $(CXX) $(CXXFLAGS) -fsyntax-only -x c++ - || exit 1; \
+	    printf '#include "%s"\n' $$header | $(CC) $(CFLAGS) $(STRICT) -fsyntax-only -x c - && \
+	    printf '#include "%s"\n' $$header | $(CXX) $(CXXFLAGS) $(STRICT) -fsyntax-only -x c++ - || exit 1; \
 	done
 	@echo "headers: each compiles by itself as C11 and as C++17 ($(words $(HEADER)))"
 
-build/plain/tests: $(call OBJECTS,plain) $(LIB)
-	@echo "  link $@"; $(CXX) -o $@ $^ -lcmocka
+# The tests in build/$(1), built by $(2) and $(3) with the flags $(4). One test includes an example.
+define tests
+build/$(1)/tests: $$(call OBJECTS,$(1)) $$(LIB)
+	@echo "  link $$@"; $(3) $(4) -o $$@ $$^ -lcmocka
+build/$(1)/%.o: tests/c/%.c $$(TESTS_H) | build/$(1)
+	@echo "  $(2) $$<"; $(2) $$(CFLAGS) $(4) -c -o $$@ $$<
+build/$(1)/%.o: tests/c/%.cpp $$(TESTS_H) | build/$(1)
+	@echo "  $(3) $$<"; $(3) $$(CXXFLAGS) $(4) -c -o $$@ $$<
+build/$(1)/test_cross.o: examples/cross/cross.c
+endef
+$(eval $(call tests,plain,$(CC),$(CXX),))
+$(eval $(call tests,clang,clang,clang++,))
+$(eval $(call tests,sanitized,$(CC),$(CXX),$(SANITIZE)))
 
-build/sanitized/tests: $(call OBJECTS,sanitized) $(LIB)
-	@echo "  link $@"; $(CXX) $(SANITIZE) -o $@ $^ -lcmocka
+# All C of README.md and docs/, as it stands there; what the examples say of bad arguments.
+.PHONY: test-docs
+test-docs: $(LIB) $(EXAMPLES)
+	@CC='$(CC)' CFLAGS='$(CFLAGS)' LIB='$(LIB)' tests/docs/run.sh
+	@tests/docs/arguments.sh
 
-build/plain/%.o: tests/c/%.c $(TESTS_H) | build/plain
-	@echo "  cc $<"; $(CC) $(CFLAGS) -c -o $@ $<
-build/plain/%.o: tests/c/%.cpp $(TESTS_H) | build/plain
-	@echo "  c++ $<"; $(CXX) $(CXXFLAGS) -c -o $@ $<
-build/sanitized/%.o: tests/c/%.c $(TESTS_H) | build/sanitized
-	@echo "  cc $<"; $(CC) $(CFLAGS) $(SANITIZE) -c -o $@ $<
-build/sanitized/%.o: tests/c/%.cpp $(TESTS_H) | build/sanitized
-	@echo "  c++ $<"; $(CXX) $(CXXFLAGS) $(SANITIZE) -c -o $@ $<
+# Recordings played on libraries with one rule changed.
+.PHONY: test-replay
+test-replay: $(LIB)
+	@CC='$(CC)' CFLAGS='$(CFLAGS)' LIB='$(LIB)' tests/replay/run.sh
 
-# This test includes the example.
-build/plain/test_cross.o build/sanitized/test_cross.o: examples/cross/cross.c
-
-# The first test of docs/FIRMWARE.md, as it stands there.
-build/first_test.c: docs/FIRMWARE.md | build
-	@awk '/^```/ { inside = /^```c/ && !blocks++; next } inside' $< >$@
-build/first_test: build/first_test.c $(HEADER) $(LIB)
-	@echo "  cc $<"; $(CC) $(CFLAGS) -o $@ $< $(LIB)
-
-# The examples of docs/CALLS.md, one program.
-build/calls.c: docs/CALLS.md | build
-	@awk '/^```/ { inside = /^```c/; next } inside' $< >$@
-build/calls: build/calls.c $(HEADER) $(LIB)
-	@echo "  cc $<"; $(CC) $(CFLAGS) -o $@ $< $(LIB)
-
-build build/plain build/sanitized:
+build build/plain build/clang build/sanitized build/packaging build/dist:
 	@mkdir -p $@
 
 test-rust: $(LIB) | build
 	@(cd tests/rust && cargo test --release -- --nocapture) >build/rust.log 2>&1 || \
 	    { cat build/rust.log; exit 1; }
-	@grep -e '^copper' -e '^masks' -e '^order' -e '^random calls' -e '^saved' -e '^  [a-zA-Z]' build/rust.log
+	@grep -e '^copper' -e '^masks' -e '^order' -e '^random calls' -e '^recording' -e '^saved' -e '^  [a-zA-Z]' build/rust.log
 	@awk '/^test result/ { n += $$4 } END { print "Rust tests: " n " passed, 0 failed" }' build/rust.log
+
+test-install: $(LIB)
+	@tests/install/run.sh
+
+lint:
+	@scripts/lint.sh
 
 bench: $(LIB)
 	@cd tests/rust && cargo run --profile bench --quiet --bin bench
+
+# Stand-ins for the board's headers, of an #error each; a board's own header in their place is left alone.
+STUBS := include/xosera_m68k_api.h include/xosera_m68k_defs.h
+
+# Where things are installed.
+TO        = $(DESTDIR)$(PREFIX)
+PACKAGING = build/packaging/xosera.pc build/packaging/XoseraConfigVersion.cmake
+
+build/packaging/%: packaging/%.in include/xosera/version.h | build/packaging
+	@sed 's/@VERSION@/$(VERSION)/' $< >$@
+
+install: $(LIB) $(PACKAGING)
+	@install -d '$(TO)/include/xosera' '$(TO)/lib/pkgconfig' '$(TO)/lib/cmake/Xosera' \
+	    '$(TO)/share/doc/xosera/docs/changes' '$(TO)/share/doc/xosera/examples'
+	@install -m 644 include/xosera_model.h '$(TO)/include'
+	@for stub in $(STUBS); do to='$(TO)'/$$stub; \
+	    if [ ! -e "$$to" ] || cmp -s $$stub "$$to"; then install -m 644 $$stub "$$to"; fi; done
+	@install -m 644 include/xosera/*.h '$(TO)/include/xosera'
+	@install -m 644 $(LIB) '$(TO)/lib'
+	@install -m 644 build/packaging/xosera.pc '$(TO)/lib/pkgconfig'
+	@install -m 644 packaging/XoseraConfig.cmake build/packaging/XoseraConfigVersion.cmake '$(TO)/lib/cmake/Xosera'
+	@install -m 644 README.md CHANGELOG.md LICENSE '$(TO)/share/doc/xosera'
+	@install -m 644 docs/*.md '$(TO)/share/doc/xosera/docs'
+	@install -m 644 docs/changes/*.md '$(TO)/share/doc/xosera/docs/changes'
+	@install -m 644 examples/*/*.c '$(TO)/share/doc/xosera/examples'
+	@echo "Xosera $(VERSION) is installed to $(TO)"
+
+uninstall:
+	rm -rf '$(TO)/include/xosera' '$(TO)/lib/cmake/Xosera' '$(TO)/share/doc/xosera'
+	@for stub in $(STUBS); do if cmp -s $$stub '$(TO)'/$$stub; then rm -f '$(TO)'/$$stub; fi; done
+	rm -f '$(TO)/include/xosera_model.h' '$(TO)/lib/libxosera.a' '$(TO)/lib/pkgconfig/xosera.pc'
+
+# The same files make the same tarball: sorted names, one owner, the time of the last commit.
+DIST              := xosera-$(VERSION)-x86_64-linux
+SOURCE_DATE_EPOCH ?= $(shell git log -1 --format=%ct 2>/dev/null || echo 0)
+
+dist: $(LIB) | build/dist
+	@rm -rf build/dist/$(DIST)
+	@$(MAKE) -s install DESTDIR= PREFIX=build/dist/$(DIST) >build/dist/log
+	@install -m 644 packaging/INSTALL CHANGELOG.md LICENSE build/dist/$(DIST)
+	@echo $(VERSION) >build/dist/$(DIST)/VERSION
+	@tar --sort=name --format=ustar --owner=0 --group=0 --numeric-owner --mode=u=rwX,go=rX \
+	    --mtime=@$(SOURCE_DATE_EPOCH) -C build/dist -cf - $(DIST) | gzip -9n >build/dist/$(DIST).tar.gz
+	@echo build/dist/$(DIST).tar.gz
 
 clean:
 	rm -rf build
