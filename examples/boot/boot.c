@@ -6,7 +6,8 @@
  * Without a file of that name the firmware boots, and the adapter is saved there. With one, it is
  * loaded instead. Then a second adapter boots, to show that it comes to the same: both must be
  * equal word by word, and again after the same further drawing. The boot tests VRAM with so many
- * patterns, 256 unless said otherwise, and stores its picture pixel by pixel.
+ * patterns, 256 unless said otherwise, and stores its picture pixel by pixel. What is wrong with an
+ * argument is said on stderr, with the usage, and the exit status is 2.
  */
 #include <errno.h>
 #include <stdio.h>
@@ -165,13 +166,33 @@ static void compare(int patterns, double load_time)
     puts("both are equal, after the load and after drawing on");
 }
 
+/* Say in a sentence what is wrong, then the usage; the exit status for it. */
+static int complain(const char *what, const char *argument)
+{
+    fprintf(stderr, "boot: %s%s\nusage: boot FILE [PATTERNS]\n", what, argument);
+    return 2;
+}
+
+/* So many patterns; 0 where the text is no number from 1 to 9999. */
+static int read_patterns(const char *text)
+{
+    char *end;
+    const long value = strtol(text, &end, 10);
+    return end != text && *end == '\0' && 1 <= value && value <= 9999 ? (int)value : 0;
+}
+
 int main(int argc, char **argv)
 {
-    const int patterns = argc == 3 ? atoi(argv[2]) : 256;
     char text[256];
-    if (argc < 2 || argc > 3 || patterns < 1) {
-        fputs("usage: boot FILE [PATTERNS]\n", stderr);
-        return 2;
+    if (argc < 2) {
+        return complain("FILE is missing", "");
+    }
+    if (argc > 3) {
+        return complain("there is an argument too many: ", argv[3]);
+    }
+    const int patterns = argc == 3 ? read_patterns(argv[2]) : 256;
+    if (patterns == 0) {
+        return complain("PATTERNS should be a number from 1 to 9999 and is ", argv[2]);
     }
     for (int i = 0; i < 2; i++) {
         xosera_attach(&adapters[i], vram[i], XOSERA_VRAM_MAX, xr[i], XOSERA_XR_WORDS);
@@ -188,8 +209,7 @@ int main(int argc, char **argv)
         a = xosera_save_file(&adapters[0], argv[1]);
     }
     if (!xosera_file_done(a)) {
-        fprintf(stderr, "%s\n", xosera_file_text(text, sizeof text, argv[1], a));
-        return 1;
+        return complain(xosera_file_text(text, sizeof text, argv[1], a), "");
     }
     printf("saved: %s\n", argv[1]);
     return 0;

@@ -135,9 +135,13 @@ static void put_wrong_lines(const run *right, const run *wrong)
     printf("wrong lines: %d\n", count);
 }
 
-int main(void)
+int main(int argc, char **argv)
 {
     static run right, wrong;
+    if (argc > 1) {
+        fprintf(stderr, "border: there is an argument too many: %s\nusage: border\n", argv[1]);
+        return 2;
+    }
     run_list(&right, right_list);
     run_list(&wrong, wrong_list);
     put_changes(HALFWAY, &right, &right);

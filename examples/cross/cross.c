@@ -9,7 +9,10 @@
  * crop that leaves the right edge mask as it was: the field before (X lit and o dark where it is
  * wrong), the wrong pixels, and the field after. -s does the blit in single steps and lists first
  * each word done, with the nibbles that it wrote; with -f those of both drawings side by side.
+ * What is wrong with an argument is said on stderr, with the usage, and the exit status is 2.
  */
+#include <errno.h>
+#include <stdarg.h>
 #include <stdbool.h>
 #include <stdio.h>
 #include <stdlib.h>
@@ -156,49 +159,109 @@ static int even_width(int width)
     return width + width % 2;
 }
 
-/* False unless the arguments are as the usage says. */
-static bool read_options(options *o, int argc, char **argv)
+/* Say in a sentence what is wrong, then the usage. */
+__attribute__((format(printf, 1, 2))) static bool complain(const char *format, ...)
+{
+    va_list arguments;
+    va_start(arguments, format);
+    fputs("cross: ", stderr);
+    vfprintf(stderr, format, arguments);
+    va_end(arguments);
+    fprintf(stderr,
+            "\nusage: cross [-s] [-f] [X Y WIDTH [FILE]], inside %d by %d pixels, %d high\n",
+            FIELD_W, FIELD_H, CROSS_H);
+    return false;
+}
+
+/* The options at the front; `*next` is the argument behind them. A number below 0 is none. */
+static bool read_flags(options *o, int argc, char **argv, int *next)
 {
     int i = 1;
-    for (; i < argc && argv[i][0] == '-'; i++) {
+    for (; i < argc && argv[i][0] == '-' && strchr("0123456789", argv[i][1]) == NULL; i++) {
         if (strcmp(argv[i], "-s") == 0) {
             o->steps = true;
         } else if (strcmp(argv[i], "-f") == 0) {
             o->fault = true;
         } else {
-            return false;
+            return complain("there is no option %s", argv[i]);
         }
     }
-    const int n = argc - i;
-    if (n >= 3) {
-        o->x = atoi(argv[i]);
-        o->y = atoi(argv[i + 1]);
-        o->width = atoi(argv[i + 2]);
-        o->file = argv[i + 3]; /* NULL where the arguments end */
-    }
-    return (n == 0 || n == 3 || n == 4) && 1 <= o->width && o->width <= FIELD_W && 0 <= o->x &&
-           o->x <= FIELD_W - even_width(o->width) && 0 <= o->y && o->y <= FIELD_H - CROSS_H;
+    *next = i;
+    return true;
 }
 
-static int write_picture(const char *name, int field)
+static bool read_number(const char *name, const char *text, int *number)
 {
-    FILE *const file = fopen(name, "w");
-    if (file == NULL || fprintf(file, "P1\n%d %d\n", FIELD_W, FIELD_H) < 0) {
-        perror(name);
-        return 1;
+    char *end;
+    errno = 0;
+    const long value = strtol(text, &end, 10);
+    if (end == text || *end != '\0') {
+        return complain("%s is not a number: \"%s\"", name, text);
     }
+    if (errno == ERANGE || value < -9999 || value > 9999) {
+        return complain("%s is far outside the field: %s", name, text);
+    }
+    *number = (int)value;
+    return true;
+}
+
+static bool in_range(const char *name, int number, int low, int high)
+{
+    if (number < low || number > high) {
+        return complain("%s is %d and should be %d to %d", name, number, low, high);
+    }
+    return true;
+}
+
+/* False, with a sentence, unless the arguments are as the usage says. */
+static bool read_options(options *o, int argc, char **argv)
+{
+    static const char *const missing[] = {"", "Y and WIDTH are", "WIDTH is"};
+    int i = 0;
+    if (!read_flags(o, argc, argv, &i)) {
+        return false;
+    }
+    const int n = argc - i;
+    if (n == 1 || n == 2) {
+        return complain("%s missing after %s", missing[n], argv[argc - 1]);
+    }
+    if (n > 4) {
+        return complain("there is an argument too many: %s", argv[i + 4]);
+    }
+    if (n != 0 && !(read_number("X", argv[i], &o->x) && read_number("Y", argv[i + 1], &o->y) &&
+                    read_number("WIDTH", argv[i + 2], &o->width))) {
+        return false;
+    }
+    o->file = n == 4 ? argv[i + 3] : NULL;
+    return in_range("WIDTH", o->width, 1, FIELD_W) &&
+           in_range("X", o->x, 0, FIELD_W - even_width(o->width)) &&
+           in_range("Y", o->y, 0, FIELD_H - CROSS_H);
+}
+
+/* The picture of the field, in a file or, without a name, nowhere. */
+static bool write_picture(const char *name, int field)
+{
+    if (name == NULL) {
+        return true;
+    }
+    errno = 0;
+    FILE *const file = fopen(name, "w");
+    if (file == NULL) {
+        return complain("%s cannot be written: %s", name, strerror(errno));
+    }
+    fprintf(file, "P1\n%d %d\n", FIELD_W, FIELD_H);
     put_field(file, field, "0101");
-    fclose(file);
-    return 0;
+    const bool written = ferror(file) == 0;
+    if (fclose(file) != 0 || !written) {
+        return complain("%s cannot be written: %s", name, strerror(errno));
+    }
+    return true;
 }
 
 int main(int argc, char **argv)
 {
     options o = {.x = 10, .y = 1, .width = 21};
     if (!read_options(&o, argc, argv)) {
-        fprintf(stderr,
-                "usage: cross [-s] [-f] [X Y WIDTH [FILE]], inside %d by %d pixels, %d high\n",
-                FIELD_W, FIELD_H, CROSS_H);
         return 2;
     }
 
@@ -224,5 +287,5 @@ int main(int argc, char **argv)
         printf("after: right mask of %d\n", o.width);
     }
     put_field(stdout, FIELD, ".#oX");
-    return o.file == NULL ? 0 : write_picture(o.file, drawings[first].field);
+    return write_picture(o.file, drawings[first].field) ? 0 : 2;
 }
