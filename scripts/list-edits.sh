@@ -14,6 +14,7 @@ sed -n 's/^\([a-z_]*\):.*/\1/p' crates.txt | while read -r crate; do
     [ -d "crates/$crate/must-fail" ] || continue
     printf '\n## %s: %s\n\n| Edit | In | The rule |\n|---|---|---|\n' "$crate" "$(find "crates/$crate/must-fail" -name '*.edit' | wc -l)"
     for edit in "crates/$crate/must-fail"/*.edit; do
+        # shellcheck disable=SC2016  # the backquotes are markdown
         printf '| `%s` | `%s` | %s |\n' "$(basename "$edit" .edit)" "$(sed -n 's/^file: //p' "$edit")" "$(sed -n '1s/^# //p' "$edit")"
     done
 done

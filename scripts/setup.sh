@@ -1,3 +1,4 @@
+# shellcheck shell=sh
 # Installs from Debian what this machine lacks. Usage: . scripts/setup.sh; then `need PACKAGE CHECK...` for each and `install_missing`.
 missing=
 need() { # the package is wanted unless the check succeeds
