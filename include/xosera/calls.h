@@ -118,8 +118,8 @@ typedef struct xosera_beam {
 
 /* The whole state of the adapter but for its memories: 79 words, flags and bytes too, and no
  * padding. It may be copied, kept and compared with memcmp: equal states are equal memory. Words
- * that no adapter can have, set by a test or in a handle that was never attached, are refused with
- * 3, never misread. */
+ * that no adapter can have, set by a test or in a state that was never reset, are refused with 3,
+ * never misread. */
 #define XOSERA_STATE_WORDS 79
 typedef struct xosera_state {
     xosera_host host;
