@@ -28,6 +28,18 @@ pub fn place(a: VramAddr, n: usize) -> usize
     (a.0 as usize) & (n - 1)
 }
 
+// Copies a memory to another that is as long.
+pub fn copy(from: &[u16], to: &mut [u16])
+    requires { ⌜ length (now from) ≡ length (now to) ⌝ }
+    ensures { λ _. ⌜ now (to .exit) ≡ now (from .entry) ⌝ }
+{
+    let mut i = 0;
+    while i < to.len() {
+        to[i] = from[i];
+        i += 1;
+    }
+}
+
 pub fn read_word(vram: &[u16], a: VramAddr) -> u16
     requires { ⌜ isVramLength (length (now vram)) ≡ true ⌝ }
     ensures { λ r. ⌜ r ≡ word (now (vram .entry)) (a .0) ⌝ }

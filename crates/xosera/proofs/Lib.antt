@@ -2,6 +2,7 @@
 -- named by its subject, what is done to it, and what then holds, as `stepped-in-range` or `launched-left`.
 pub mod Branches
 pub mod Tables
+pub mod FilledLists
 pub mod Computing
 pub mod ComputedTables
 pub mod MaskLaws

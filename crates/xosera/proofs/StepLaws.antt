@@ -149,7 +149,7 @@ module _ (a : Adapter) (b : ℕ) (h : Starts a b) where
   pub started-in-range : inRange (stateOf (after a (startWith b))) ≡ true
   started-in-range = after-in-range a (startWith b) (accepted-in-range a (startWith b) (h .accepted))
 
-launched-words : (r : BlitRegs) → blitWords (launched r .regs) ≡ blitWords r
+pub launched-words : (r : BlitRegs) → blitWords (launched r .regs) ≡ blitWords r
 unfolding launched blitWords
 launched-words r = rw mod-mod
 

@@ -6,7 +6,8 @@ use native.Mathlib.Omega.{arith}
 use lib.ListN.{length, set}
 use Rattle.saved_file.specs.SavedFile.{wordsOf}
 use Rattle.saved_file.proofs.ByteLaws.{words-length}
-use Rattle.file_bytes.proofs.CopyLaws.{over, over-length, over-all, get-next}
+use Rattle.xosera.proofs.FilledLists.{over, over-length, over-all}
+use Rattle.file_bytes.proofs.CopyLaws.{get-next}
 use Rattle.file_bytes.proofs.get_words.Statement.{statement}
 use Rattle.file_bytes.proofs.get_words.Tie as tie
 

@@ -6,7 +6,8 @@ use native.Mathlib.Omega.{arith}
 use lib.ListN.{length, getD, set}
 use Rattle.saved_file.specs.SavedFile.{bytesOf}
 use Rattle.saved_file.proofs.ByteLaws.{bytes-length}
-use Rattle.file_bytes.proofs.CopyLaws.{over, over-length, over-all, put-next}
+use Rattle.xosera.proofs.FilledLists.{over, over-length, over-all}
+use Rattle.file_bytes.proofs.CopyLaws.{put-next}
 use Rattle.file_bytes.proofs.put_words.Statement.{statement}
 use Rattle.file_bytes.proofs.put_words.Tie as tie
 
