@@ -77,14 +77,14 @@ fn is_constant(e: Engine) -> bool
 }
 
 // The first mask on a line's first word.
-fn first_mask(e: Engine) -> u16
+pub fn first_mask(e: Engine) -> u16
     ensures { λ r. ⌜ r ≡ firstMask e ⌝ }
 {
     if e.word == 0 { e.regs.shift / 4096 } else { 15 }
 }
 
 // The last mask on a line's last word.
-fn last_mask(e: Engine) -> u16
+pub fn last_mask(e: Engine) -> u16
     ensures { λ r. ⌜ r ≡ lastMask e ⌝ }
 {
     if last_word(e) {
@@ -95,7 +95,7 @@ fn last_mask(e: Engine) -> u16
 }
 
 // The colour test as a spread mask, if it is asked for.
-fn test_bits(e: Engine, s: u16) -> u16
+pub fn test_bits(e: Engine, s: u16) -> u16
     ensures { λ r. ⌜ r ≡ spread (testMask e s) ⌝ }
 {
     let ctrl = e.regs.ctrl;
@@ -126,7 +126,7 @@ fn fetch(e: Engine, vram: &[u16]) -> u16
 }
 
 // S: the constant, or the word taken, through the shifter.
-fn source(e: Engine, word: u16) -> u16
+pub fn source(e: Engine, word: u16) -> u16
     ensures { λ r. ⌜ r ≡ sourced e word ⌝ }
 {
     if is_constant(e) {

@@ -46,12 +46,12 @@ unfolding answer wrote
 idle-answer a off = rw (idle-mask a off) (cond-same (eqb (refusal a step) 0) 0)
 
 -- A word drawn is a store under the step's mask.
-vram-some : (n : ℕ) → isVramLength n ≡ true → 0 < n
+pub vram-some : (n : ℕ) → isVramLength n ≡ true → 0 < n
 unfolding isVramLength
 vram-some zero h = absurd (true≢false (sym h))
 vram-some (suc n) h = omega arith
 
-wrote-nibbles : (a b : Adapter) → 0 < length (a .vram) → b .vram ≡ stored (storeNow a) (a .vram) → WroteNibbles a (storeNow a .mask) b
+pub wrote-nibbles : (a b : Adapter) → 0 < length (a .vram) → b .vram ≡ stored (storeNow a) (a .vram) → WroteNibbles a (storeNow a .mask) b
 unfolding drawing
 wrote-nibbles a b long left =
     let k = storeNow a in

@@ -84,26 +84,35 @@ colour-bit bytes t s =
     digit : (k : ℕ) → colourMask bytes t s / 2 ^ k % 2 ≡ one k → bit k (colourMask bytes t s) ≡ not (isColour bytes t s k)
     digit k e = ap (λ (n : ℕ). eqb n 1) e ∙ clear-is-1 (isColour bytes t s k)
 
--- So the write mask has the nibbles that none of the three holds back.
+-- Each of the three masks has the nibbles that it does not hold back, and the write mask those that none does.
+module _ (e : Engine) (k : ℕ) (h : k < 4) where
+  pub first-mask-bit : bit k (firstMask e) ≡ not (firstHolds e k)
+  unfolding firstMask
+  first-mask-bit = edge-bit (eqb (e .word) 0) (firstEdge (e .regs .shift)) k h
+
+  pub last-mask-bit : bit k (lastMask e) ≡ not (lastHolds e k)
+  unfolding lastMask
+  last-mask-bit = edge-bit (lastWord e) (lastEdge (e .regs .shift)) k h
+
+  pub test-mask-bit : (s : ℕ) → bit k (testMask e s) ≡ not (testHolds e s k)
+  unfolding testMask bit
+  test-mask-bit s = go (colourTested (e .regs .ctrl))
+    where
+      go : (tested : Bool) → bit k (cond tested (colourMask (wholeBytes (e .regs .ctrl)) (testColour (e .regs .ctrl)) s) 15)
+          ≡ not (tested && isColour (wholeBytes (e .regs .ctrl)) (testColour (e .regs .ctrl)) s k)
+      go true = colour-bit (wholeBytes (e .regs .ctrl)) (testColour (e .regs .ctrl)) s k h
+      go false = at-four (λ (j : ℕ). bit j 15 ≡ true) refl refl refl refl k h
+
 none-holds : (f l t : Bool) → (not f && not l) && not t ≡ not (f || l || t)
 none-holds true l t = refl
 none-holds false true t = refl
 none-holds false false t = refl
 
 pub write-mask-bit : (e : Engine) (s k : ℕ) → k < 4 → bit k (writeMask e s) ≡ not (firstHolds e k || lastHolds e k || testHolds e s k)
-unfolding writeMask firstMask lastMask testMask bit
+unfolding writeMask
 write-mask-bit e s k h =
     and-bit k (bitAnd (firstMask e) (lastMask e)) (testMask e s) ∙ ap (λ (b : Bool). b && bit k (testMask e s)) (and-bit k (firstMask e) (lastMask e))
-    ∙ rw (
-      edge-bit (eqb (e .word) 0) (firstEdge (e .regs .shift)) k h,
-      edge-bit (lastWord e) (lastEdge (e .regs .shift)) k h,
-      test-bit (colourTested (e .regs .ctrl)),
-    ) (none-holds (firstHolds e k) (lastHolds e k) (testHolds e s k))
-  where
-    test-bit : (tested : Bool) → bit k (cond tested (colourMask (wholeBytes (e .regs .ctrl)) (testColour (e .regs .ctrl)) s) 15)
-        ≡ not (tested && isColour (wholeBytes (e .regs .ctrl)) (testColour (e .regs .ctrl)) s k)
-    test-bit true = colour-bit (wholeBytes (e .regs .ctrl)) (testColour (e .regs .ctrl)) s k h
-    test-bit false = at-four (λ (j : ℕ). bit j 15 ≡ true) refl refl refl refl k h
+    ∙ rw (first-mask-bit e k h, last-mask-bit e k h, test-mask-bit e k h s) (none-holds (firstHolds e k) (lastHolds e k) (testHolds e s k))
 
 -- Nibble k of a word written under a mask is the new one where bit k is set and the old one where it is clear.
 pub nibble-merged : (m old new k : ℕ) → k < 4 → nibble k (merged m old new) ≡ cond (bit k m) (nibble k new) (nibble k old)

@@ -8,7 +8,7 @@ use lib.Dec.{T, eqb, eqb→eq}
 use Rattle.xosera.specs.Words.{bit, nibble, chosen, merged}
 use Rattle.words.specs.Spread.{spread}
 use Rattle.xosera.proofs.MaskLaws.{nibbles-sum}
-use Rattle.xosera.proofs.Tables.{allBelow, below-tested}
+use Rattle.xosera.proofs.Tables.{_and_, below-each, allBelow, below-tested}
 
 -- A word of four nibbles, the highest first.
 abbrev pub joined : ℕ → ℕ → ℕ → ℕ → ℕ
@@ -101,6 +101,26 @@ bit-cut m k e = ap (λ (x : ℕ). eqb x 1) e
 spread-cut : (m : ℕ) → spread (m % 16) ≡ spread m
 unfolding spread
 spread-cut m = rw (bit-cut m 3 (omega arith), bit-cut m 2 (omega arith), bit-cut m 1 (omega arith), bit-cut m 0 (omega arith))
+
+-- The lowest bit of a nibble of the spread is the mask's.
+full-odd : (b : Bool) → eqb (full b % 2) 1 ≡ b
+full-odd true = refl
+full-odd false = refl
+
+pub spread-bit : (m k : ℕ) → k < 4 → bit (4 * k) (spread m) ≡ bit k m
+unfolding bit
+spread-bit m =
+    below-each (λ (k : ℕ). bit (4 * k) (spread m) ≡ bit k m) 4
+    (lowest 0 (omega arith) and lowest 1 (omega (arith, small 0)) and lowest 2 (omega (arith, small 0, small 1))
+    and lowest 3 (omega (arith, small 0, small 1, small 2)) and tt)
+  where
+    small : (k : ℕ) → full (bit k m) < 16
+    small k = full-lt (bit k m)
+
+    lowest : (k : ℕ)
+        → joined (full (bit 3 m)) (full (bit 2 m)) (full (bit 1 m)) (full (bit 0 m)) / 2 ^ (4 * k) % 2 ≡ full (bit k m) % 2
+        → bit (4 * k) (spread m) ≡ bit k m
+    lowest k e = ap (λ (x : ℕ). eqb (x / 2 ^ (4 * k) % 2) 1) (spread-joined m) ∙ ap (λ (x : ℕ). eqb x 1) e ∙ full-odd (bit k m)
 
 -- The mask's four bits moved apart and widened by multiplication.
 abbrev pub paired : ℕ → ℕ

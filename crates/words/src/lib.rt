@@ -45,6 +45,14 @@ pub fn gathered(bits: u16) -> u16
     (((((bits & 0x1111) as u32) * 0x0249) >> 9) % 16) as u16
 }
 
+// Whether a spread mask has nibble k, 0 the lowest.
+pub fn has_nibble(k: u16, bits: u16) -> bool
+    requires { ⌜ k < 4 ⌝ }
+    ensures { λ r. ⌜ ((m : ℕ) → bits ≡ spread m → r ≡ bit k m) ⌝ }
+{
+    bit(4 * k, bits)
+}
+
 // A word written under a spread nibble mask.
 pub fn blended(bits: u16, old: u16, new: u16) -> u16
     ensures { λ r. ⌜ ((m : ℕ) → bits ≡ spread m → r ≡ merged m old new) ⌝ }
