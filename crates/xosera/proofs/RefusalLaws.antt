@@ -34,7 +34,7 @@ abbrev pub applied : List Test → ℕ → Bool
 applied ts i = getD ts i (0 when false) .applies
 
 -- Where none is given the first test does not apply, and none of the rest is given.
-passed : (t : Test) (more : List Test) → 0 < t .number → first (t ∷ more) ≡ 0 → (t .applies ≡ false) × (first more ≡ 0)
+pub passed : (t : Test) (more : List Test) → 0 < t .number → first (t ∷ more) ≡ 0 → (t .applies ≡ false) × (first more ≡ 0)
 unfolding first
 passed t more over h = go (t .applies) refl
   where

@@ -38,6 +38,12 @@ unfolding steps
 steps-add zero n a = rw zero-add
 steps-add (suc m) n a = rw suc-add (steps-add m n (stepped a))
 
+-- The last of n + 1 steps is done on what n steps left.
+pub steps-last : (n : ℕ) (a : Adapter) → steps (suc n) a ≡ stepped (steps n a)
+unfolding steps
+steps-last zero a = refl
+steps-last (suc n) a = steps-last n (stepped a)
+
 -- The mask of a step has four bits.
 pub step-mask-small : (a : Adapter) → stepMask a ≤ 15
 unfolding stepMask drawing
