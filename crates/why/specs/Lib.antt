@@ -1,0 +1,3 @@
+-- What the inner functions of the account mean.
+pub mod Reaches
+pub mod Progress
