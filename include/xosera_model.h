@@ -4,12 +4,13 @@
  *
  * xosera/registers.h  Constants: main registers, XR registers, XR memories, bits; makers of words.
  * xosera/version.h    The version, and the library that it needs.
- * xosera/calls.h      The library: state, answers and the ten calls of libxosera.a.
+ * xosera/calls.h      The library: state, answers and the eleven calls of libxosera.a.
  * xosera/texts.h      Names and words for messages.
  * xosera/adapter.h    The adapter: a state with its two memories, settings, hooks, refusals.
  * xosera/passing.h    How time passes: steps, ticks, the beam, waits, the board's rates.
  * xosera/handle.h     The handle's accesses: bytes, words, longs, VRAM, XR space, pixels.
  * xosera/state.h      States compared and shown.
+ * xosera/why.h        Why a pixel is as it is: which word of a blit wrote it, or what held it back.
  * xosera/files.h      Files: an adapter is saved under a name and loaded again.
  * xosera/trace.h      A trace: a line of text for every call.
  * xosera/recording.h  Recorded sessions: every call with its answer, as text.
@@ -32,6 +33,7 @@
 #include "xosera/passing.h"
 #include "xosera/handle.h"
 #include "xosera/state.h"
+#include "xosera/why.h"
 #include "xosera/files.h"
 #include "xosera/trace.h"
 #include "xosera/recording.h"

@@ -23,11 +23,13 @@
  * one access. What a call does not have is 0. */
 typedef struct xosera_access {
     xosera_call call;
-    unsigned reg;   /* write and read: the register's number, UINT_MAX where it is greater */
+    unsigned reg;   /* write and read: the register's number; of a why, the nibble's place; UINT_MAX
+                     * where it is greater */
     bool odd;       /* write and read */
     uint8_t byte;   /* written, or read */
-    uint64_t n;     /* words, ticks or beam steps asked for; a step is 1 */
-    uint64_t count; /* words, ticks or beam steps done; of a save, the file's length in bytes */
+    uint64_t n;     /* words, ticks or beam steps asked for; a step is 1; of a why, the address */
+    uint64_t count; /* words, ticks or beam steps done; of a save, the file's length in bytes; of a
+                     * why, its fate */
     uint8_t mask;   /* answered by a write, step or run */
     bool up;        /* answered by a line question */
     bool passing;   /* made because time passes with a byte accessed, not by the test */
@@ -40,7 +42,7 @@ typedef struct xosera_access {
 typedef struct xosera_refused {
     xosera_refusal why; /* XOSERA_DONE: no call was refused */
     xosera_call call;
-    unsigned reg; /* write and read */
+    unsigned reg; /* write and read; of a why, the nibble's place */
     bool odd;
     uint8_t byte; /* write */
     const char *file;
@@ -311,7 +313,7 @@ static inline xosera_access xosera_make_time(xosera *x, xosera_access what)
 }
 
 /* Make the call that is asked for, and give it back with the answer. (Save and load are made in
- * files.h.) */
+ * files.h, a why in why.h.) */
 static inline xosera_access xosera_make(xosera *x, xosera_access what)
 {
     if (what.call == XOSERA_CALL_WRITE || what.call == XOSERA_CALL_READ) {

@@ -1,6 +1,6 @@
 /* SPDX-License-Identifier: MIT */
 /*
- * State and calls: the ten calls of libxosera.a, the state that is lent to them, what they
+ * State and calls: the eleven calls of libxosera.a, the state that is lent to them, what they
  * answer and the numbers of their refusals. docs/CALLS.md says what each call does.
  */
 #ifndef XOSERA_MODEL_CALLS_H
@@ -16,10 +16,11 @@
 /* What a call can say. The lowest number that applies is given. A refused call leaves every word of
  * the state and of both memories as it was, a refused save every byte of the room; a refused read
  * gives byte 0, a refused write mask 0, a refused step or run count 0 and mask 0, a refused line
- * question no, a refused save length 0. */
+ * question no, a refused save length 0, a refused why no fate. */
 typedef enum xosera_refusal {
     XOSERA_DONE = 0,
-    XOSERA_VRAM_LENGTH = 1,       /* VRAM is not a power of two of words from 256 to 65,536 */
+    XOSERA_VRAM_LENGTH = 1,       /* VRAM is not a power of two of words from 256 to 65,536; of a
+                                   * why, also: the two memories are not of one length */
     XOSERA_XR_LENGTH = 2,         /* XR memory is not 6,656 words */
     XOSERA_STATE_RANGE = 3,       /* a word of the state is out of its range */
     XOSERA_NO_REGISTER = 4,       /* register number over 15 */
@@ -28,7 +29,8 @@ typedef enum xosera_refusal {
     XOSERA_ROOM_SHORT = 7,        /* room too short for the file */
     XOSERA_NO_SAVED_ADAPTER = 8,  /* file is not a saved adapter */
     XOSERA_SAVED_VRAM_LENGTH = 9, /* VRAM of the saved adapter is not as long as the memory lent */
-    XOSERA_NOT_AT_REST = 10       /* beam and copper are not at rest */
+    XOSERA_NOT_AT_REST = 10,      /* beam and copper are not at rest */
+    XOSERA_NO_NIBBLE = 15         /* nibble over 3, or address not below the VRAM length */
 } xosera_refusal;
 
 /* A VRAM address and an XR address never stand for one another, hence two types. */
@@ -178,6 +180,25 @@ typedef struct xosera_load_answer {
     uint8_t refusal;
 } xosera_load_answer;
 
+/* What became of a nibble in a blit. */
+typedef enum xosera_fate {
+    XOSERA_NOTHING_TOLD = 0, /* the call was refused */
+    XOSERA_NEVER_REACHED = 1,
+    XOSERA_HELD_BACK = 2, /* each time that it was reached */
+    XOSERA_WRITTEN = 3    /* once at least, also with the value that it had */
+} xosera_fate;
+
+/* It has a byte of padding: compare its fields, not its memory. */
+typedef struct xosera_why_answer {
+    uint8_t refusal;
+    uint8_t fate;    /* one of xosera_fate */
+    bool first_mask; /* held back: which of the three applied when it was last reached; else no */
+    bool last_mask;
+    bool colour_test;
+    uint16_t line; /* written: line and word that wrote it last, from 0; else 0 */
+    uint16_t word;
+} xosera_why_answer;
+
 /* The library's layout; tests/c/test_layout.c holds it against the library. */
 #ifdef __cplusplus
 #define XOSERA_ASSERT(cond, text) static_assert(cond, text)
@@ -271,6 +292,14 @@ XOSERA_AT(xosera_save_answer, refusal, 0);
 XOSERA_AT(xosera_save_answer, length, 8);
 XOSERA_SIZE(xosera_load_answer, 1);
 XOSERA_AT(xosera_load_answer, refusal, 0);
+XOSERA_SIZE(xosera_why_answer, 10);
+XOSERA_AT(xosera_why_answer, refusal, 0);
+XOSERA_AT(xosera_why_answer, fate, 1);
+XOSERA_AT(xosera_why_answer, first_mask, 2);
+XOSERA_AT(xosera_why_answer, last_mask, 3);
+XOSERA_AT(xosera_why_answer, colour_test, 4);
+XOSERA_AT(xosera_why_answer, line, 6);
+XOSERA_AT(xosera_why_answer, word, 8);
 
 XOSERA_ASSERT(offsetof(xosera_state, beam) == 2 * (size_t)XOSERA_FILE_STATE_WORDS,
               "a file holds the words before the beam");
@@ -287,8 +316,8 @@ extern "C" {
 #endif
 
 /* State and memories are lent for the one call, and changed in place. State, VRAM, XR memory and
- * the bytes of a file must not overlap one another. Lengths are in words, those of a room or a file
- * in bytes. */
+ * the bytes of a file must not overlap one another, nor must two VRAMs. Lengths are in words, those
+ * of a room or a file in bytes. */
 
 /* Reset fills all words of the state: 0 but the nibble mask, 15, and XR_VID_RIGHT, 640. */
 void xosera_reset(xosera_state *s);
@@ -323,6 +352,12 @@ xosera_save_answer xosera_save(const xosera_state *s, const uint16_t *vram, size
                                const uint16_t *xr, size_t xr_len, uint8_t *room, size_t room_len);
 xosera_load_answer xosera_load(xosera_state *s, uint16_t *vram, size_t vram_len, uint16_t *xr,
                                size_t xr_len, const uint8_t *file, size_t file_len);
+
+/* Why a nibble of VRAM is as it is after the whole blit of these registers, on an engine that was
+ * idle and the memory before. `nibble` is 0 to 3 from the left. The blit is done in `work`, which
+ * ends as the blit leaves the memory, whatever it held. */
+xosera_why_answer xosera_why(xosera_blit_regs regs, const uint16_t *before, size_t before_len,
+                             uint16_t *work, size_t work_len, uint32_t address, uint32_t nibble);
 
 #ifdef __cplusplus
 }

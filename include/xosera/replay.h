@@ -135,6 +135,7 @@ static inline bool xosera_play_answer(const xosera_player *p, xosera_access what
     case XOSERA_CALL_LINE: return p->words == at + 1 && xosera_play_number(p, at, 0, 1, &value);
     case XOSERA_CALL_SAVE:
     case XOSERA_CALL_LOAD:
+    case XOSERA_CALL_WHY:
     default: return false;
     }
 }

@@ -28,7 +28,8 @@ typedef enum xosera_call {
     XOSERA_CALL_BEAM_STEP,
     XOSERA_CALL_LINE,
     XOSERA_CALL_SAVE,
-    XOSERA_CALL_LOAD
+    XOSERA_CALL_LOAD,
+    XOSERA_CALL_WHY
 } xosera_call;
 
 /* A refusal in words, for messages. */
@@ -47,6 +48,7 @@ static inline const char *xosera_refusal_text(unsigned refusal)
     case XOSERA_SAVED_VRAM_LENGTH:
         return "VRAM of the saved adapter is not as long as the memory lent";
     case XOSERA_NOT_AT_REST: return "beam and copper are not at rest";
+    case XOSERA_NO_NIBBLE: return "nibble over 3, or address not below the VRAM length";
     default: return "unknown refusal";
     }
 }
@@ -54,10 +56,17 @@ static inline const char *xosera_refusal_text(unsigned refusal)
 /* A call in words, for messages. */
 static inline const char *xosera_call_text(xosera_call call)
 {
-    static const char *const calls[] = {"write",         "read",       "blit step",
-                                        "blit run",      "timer tick", "beam step",
-                                        "line question", "save",       "load"};
-    return (unsigned)call <= XOSERA_CALL_LOAD ? calls[call] : "unknown call";
+    static const char *const calls[] = {"write",      "read",      "blit step",     "blit run",
+                                        "timer tick", "beam step", "line question", "save",
+                                        "load",       "why"};
+    return (unsigned)call <= XOSERA_CALL_WHY ? calls[call] : "unknown call";
+}
+
+/* A fate in words, for messages. */
+static inline const char *xosera_fate_text(unsigned fate)
+{
+    static const char *const fates[] = {"nothing told", "never reached", "held back", "written"};
+    return fate <= XOSERA_WRITTEN ? fates[fate] : "unknown fate";
 }
 
 /* The name of a main register, as XM_SYS_CTRL. */

@@ -67,6 +67,10 @@ static inline void xosera_trace_call(const xosera *x, const xosera_access *what)
         break;
     case XOSERA_CALL_LINE: fprintf(x->trace, ": %s", what->up ? "up" : "down"); break;
     case XOSERA_CALL_SAVE: fprintf(x->trace, ": %llu bytes", count); break;
+    case XOSERA_CALL_WHY:
+        fprintf(x->trace, ": 0x%04llX nibble %u, %s", n, what->reg,
+                xosera_fate_text((unsigned)count));
+        break;
     case XOSERA_CALL_WRITE:
     case XOSERA_CALL_READ:
     case XOSERA_CALL_LOAD:

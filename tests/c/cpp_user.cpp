@@ -1,5 +1,7 @@
 // The header as C++17, on the adapter that the C side put in use. The number of the first check
 // that does not hold, or 0.
+#include <cstring>
+
 #include "xosera_model.h"
 
 #include "board_code.h"
@@ -61,5 +63,14 @@ int cpp_user()
         own.state.video.vid_ctrl != 0x0004 || own.state.beam.copper_word != 4) {
         return 8;
     }
-    return before->vram[0x20] == 0xC0DE ? 0 : 9;
+
+    // Why a pixel is as it is.
+    char text[100];
+    const xosera_why_answer why = xosera_why_pixel(&own, 0x13, 3, nullptr);
+    if (why.fate != XOSERA_WRITTEN || why.line != 0 || why.word != 3 ||
+        std::strcmp(xosera_why_text(text, sizeof text, why),
+                    "written by line 0, word 3 of the blit, both from 0") != 0) {
+        return 9;
+    }
+    return before->vram[0x20] == 0xC0DE ? 0 : 10;
 }

@@ -12,6 +12,7 @@ int main(void)
     failed += ranges_group(&tests);
     failed += queue_group(&tests);
     failed += masks_group(&tests);
+    failed += why_group(&tests);
     failed += order_group(&tests);
     failed += layout_group(&tests);
     failed += saved_group(&tests);

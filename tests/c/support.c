@@ -1,3 +1,7 @@
+#define _POSIX_C_SOURCE 200809L
+#include <sys/wait.h>
+#include <unistd.h>
+
 #include "tests.h"
 
 static void fail_test(xosera *x, const xosera_refused *what)
@@ -265,4 +269,25 @@ void start_blit(xosera *x, const blit *b)
     for (int i = 0; i < 10; i++) {
         xosera_setw(x, XM_XDATA, regs[i]);
     }
+}
+
+bool aborts_with(void (*run)(xosera *x), xosera *x, char *text, size_t size)
+{
+    int ends[2], status = 0;
+    assert_int_equal(pipe(ends), 0);
+    const pid_t child = fork();
+    assert_true(child >= 0);
+    if (child == 0) {
+        (void)dup2(ends[1], STDERR_FILENO);
+        run(x);
+        _exit(0);
+    }
+    (void)close(ends[1]);
+    FILE *in = fdopen(ends[0], "r");
+    assert_non_null(in);
+    const size_t length = fread(text, 1, size - 1, in);
+    text[length] = '\0';
+    fclose(in);
+    assert_int_equal(waitpid(child, &status, 0), child);
+    return WIFSIGNALED(status) && WTERMSIG(status) == SIGABRT;
 }

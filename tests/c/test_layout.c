@@ -461,6 +461,66 @@ static void beam_and_copper_are_in_their_place(void **state)
     assert_state_equal(&x->state, &want);
 }
 
+/* One why about a nibble of word 0x20, and its answer byte by byte; byte 5 is padding. */
+typedef struct why_bytes {
+    xosera_blit_regs regs;
+    uint32_t nibble;
+    uint8_t bytes[sizeof(xosera_why_answer)];
+} why_bytes;
+
+static void the_answer_of_a_why_is_in_its_place(void **state)
+{
+    static const why_bytes list[] = {
+        {{.ctrl = 0x0001, .dst_d = 0x20, .shift = 0xFF00}, 4, {15}},
+        {{.ctrl = 0x0001, .dst_d = 0x21, .shift = 0xFF00}, 3, {0, 1}},
+        {{.ctrl = 0x0001, .dst_d = 0x20, .shift = 0x0F00}, 3, {0, 2, 1}},
+        {{.ctrl = 0x0001, .dst_d = 0x20, .shift = 0xF000}, 3, {0, 2, 0, 1}},
+        {{.ctrl = 0x0011, .dst_d = 0x20, .shift = 0xFF00}, 3, {0, 2, 0, 0, 1}},
+        {{.mod_d = 0xFFFF, .dst_d = 0x20, .shift = 0xFF00, .lines = 0x0102},
+         3,
+         {0, 3, 0, 0, 0, 0, 0x02, 0x01}},
+        {{.dst_d = 0x0420 - 0x0304, .shift = 0xFF00, .words = 0x0304},
+         3,
+         {0, 3, 0, 0, 0, 0, 0, 0, 0x04, 0x03}},
+    };
+    const xosera *x = (xosera *)*state;
+    for (size_t i = 0; i < sizeof list / sizeof list[0]; i++) {
+        uint16_t work[1024];
+        uint8_t got[sizeof(xosera_why_answer)];
+        const xosera_why_answer a =
+            xosera_why(list[i].regs, x->vram, x->vram_len, work, 1024, 0x20, list[i].nibble);
+        memcpy(got, &a, sizeof got);
+        got[5] = 0;
+        assert_memory_equal(got, list[i].bytes, sizeof got);
+    }
+}
+
+/* Ten words as the registers of a why, and written to the ten XR registers one after another: both
+ * blits leave the same memory, and another one with each word changed. */
+static void the_registers_of_a_why_are_in_their_place(void **state)
+{
+    static uint16_t left[11][1024];
+    const xosera *x = (xosera *)*state;
+    for (unsigned i = 0; i <= 10; i++) {
+        uint16_t words[11] = {0x2510, 0x0F0F, 0x1234, 3, 0x40, 5, 0x200, 0x7E01, 3, 4, 0};
+        xosera_blit_regs regs;
+        xosera *const y = adapter_copy(x);
+        words[i]++; /* with i = 10 none of the ten */
+        memcpy(&regs, words, sizeof regs);
+        xosera_setw(y, XM_WR_XADDR, XR_BLIT_CTRL);
+        for (unsigned k = 0; k < 10; k++) {
+            xosera_setw(y, XM_XDATA, words[k]);
+        }
+        (void)xosera_run(y, UINT64_MAX);
+        assert_int_equal(xosera_why(regs, x->vram, x->vram_len, left[i], 1024, 0, 0).refusal, 0);
+        assert_memory_equal(left[i], y->vram, sizeof left[i]);
+        adapter_free(y);
+    }
+    for (unsigned i = 0; i < 10; i++) {
+        assert_memory_not_equal(left[i], left[10], sizeof left[i]);
+    }
+}
+
 int layout_group(int *tests)
 {
     const struct CMUnitTest list[] = {
@@ -475,6 +535,8 @@ int layout_group(int *tests)
         WITH_ADAPTER(the_engine_is_in_its_place),
         WITH_ADAPTER(the_engine_draws_by_its_fields),
         WITH_ADAPTER(beam_and_copper_are_in_their_place),
+        WITH_ADAPTER(the_answer_of_a_why_is_in_its_place),
+        WITH_ADAPTER(the_registers_of_a_why_are_in_their_place),
     };
     return RUN_GROUP("layout", list, tests);
 }

@@ -1,8 +1,4 @@
 /* The watchdog: a loop in which nothing changes ends the test, with its line of source. */
-#define _POSIX_C_SOURCE 200809L
-#include <sys/wait.h>
-#include <unistd.h>
-
 #include "tests.h"
 
 /* Where a stuck adapter leaves to, and what the hook was told. */
@@ -254,28 +250,6 @@ static void zero_is_never(void **state)
         (void)xm_getbh(SYS_CTRL);
     }
     assert_int_equal(told.count, 0);
-}
-
-/* Runs in a child, whose standard error is read: what it printed, and whether it was aborted. */
-static bool aborts_with(void (*run)(xosera *x), xosera *x, char *text, size_t size)
-{
-    int ends[2], status = 0;
-    assert_int_equal(pipe(ends), 0);
-    const pid_t child = fork();
-    assert_true(child >= 0);
-    if (child == 0) {
-        (void)dup2(ends[1], STDERR_FILENO);
-        run(x);
-        _exit(0);
-    }
-    (void)close(ends[1]);
-    FILE *in = fdopen(ends[0], "r");
-    assert_non_null(in);
-    const size_t length = fread(text, 1, size - 1, in);
-    text[length] = '\0';
-    fclose(in);
-    assert_int_equal(waitpid(child, &status, 0), child);
-    return WIFSIGNALED(status) && WTERMSIG(status) == SIGABRT;
 }
 
 enum { LINE_OF_THE_WAIT = __LINE__ + 4 };

@@ -72,6 +72,9 @@ void start_blit(xosera *x, const blit *b);
 /* The beam stands here, by hand. */
 void set_beam(xosera *x, uint16_t line, uint16_t position);
 
+/* Runs in a child, whose standard error is read: what it printed, and whether it was aborted. */
+bool aborts_with(void (*run)(xosera *x), xosera *x, char *text, size_t size);
+
 /* One test file is one group. Each returns the number of tests that failed. */
 int table_group(int *tests);
 int rules_group(int *tests);
@@ -81,6 +84,7 @@ int refusals_group(int *tests);
 int ranges_group(int *tests);
 int queue_group(int *tests);
 int masks_group(int *tests);
+int why_group(int *tests);
 int order_group(int *tests);
 int layout_group(int *tests);
 int saved_group(int *tests);

@@ -1,6 +1,8 @@
 // The calls for C: the public calls under the prefix xosera_, the words of the state behind a pointer and each memory as
 // pointer and length.
+use reasons::WhyAnswer;
 use xosera::BlitAnswer;
+use xosera::BlitRegs;
 use xosera::LineAnswer;
 use xosera::LoadAnswer;
 use xosera::ReadAnswer;
@@ -17,13 +19,14 @@ ghost use Rattle.xosera.specs.Events.{write, read, tick, beam, line, call, step
 ghost use Rattle.xosera.specs.Ranges.{resetState};
 ghost use Rattle.adapter.specs.Promises.{Does};
 ghost use Rattle.saved_file.specs.SaveLoad.{ofSave, ofLoad, Saves, Loads};
+ghost use Rattle.reasons.specs.WhyCall.{Explains};
 
-// The version, 1.0.0, of which each file that includes the C header asks by this name.
+// The version, 1.1.0, of which each file that includes the C header asks by this name.
 #[no_mangle]
-pub extern "C" fn xosera_header_needs_library_1_0_0() -> u32
-    ensures { λ r. ⌜ r ≡ 1000000 ⌝ }
+pub extern "C" fn xosera_header_needs_library_1_1_0() -> u32
+    ensures { λ r. ⌜ r ≡ 1001000 ⌝ }
 {
-    1000000
+    1001000
 }
 
 #[no_mangle]
@@ -157,4 +160,19 @@ pub extern "C" fn xosera_load(
     ensures refused { λ r. ⌜ Untouched (ofLoad r) (now (s .entry)) (now (s .exit)) ⌝ }
 {
     saving::load(s, vram, xr, file)
+}
+
+#[no_mangle]
+pub extern "C" fn xosera_why(
+    regs: BlitRegs,
+    before: &[u16],
+    work: &mut [u16],
+    address: u32,
+    nibble: u32,
+) -> WhyAnswer
+    ensures { λ r. ⌜
+        Explains regs (now (before .entry)) (now (work .entry)) (record { address = address; nibble = nibble }) r (now (work .exit))
+        ⌝ }
+{
+    why::why_in_numbers(regs, before, work, address, nibble)
 }
