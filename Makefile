@@ -96,7 +96,10 @@ test-c: test-headers test-compile test-docs test-replay build/plain/tests build/
 	@build/cross -s | diff examples/cross/steps.txt -
 	@build/cross -s -f | diff examples/cross/fault_steps.txt -
 	@build/cross -f -s | diff examples/cross/fault_steps.txt -
-	@echo "examples/cross shows fault and single steps as in its fault.txt, steps.txt and fault_steps.txt"
+	@build/cross -w 31 3 | diff examples/cross/why.txt -
+	@cat examples/cross/fault_steps.txt examples/cross/why.txt >build/cross_why.txt
+	@build/cross -s -w 31 3 -f 10 1 21 | diff build/cross_why.txt -
+	@echo "examples/cross shows fault, single steps and why as in its fault.txt, steps.txt, fault_steps.txt and why.txt"
 	@build/border | diff examples/border/border.txt -
 	@echo "examples/border changes the border where its border.txt says"
 	@build/polling -r build/session.txt | diff examples/polling/polling.txt -
@@ -154,7 +157,7 @@ build build/plain build/clang build/sanitized build/packaging build/dist:
 test-rust: $(LIB) | build
 	@(cd tests/rust && cargo test --release -- --nocapture) >build/rust.log 2>&1 || \
 	    { cat build/rust.log; exit 1; }
-	@grep -e '^copper' -e '^masks' -e '^order' -e '^random calls' -e '^recording' -e '^saved' -e '^  [a-zA-Z]' build/rust.log
+	@grep -e '^copper' -e '^masks' -e '^order' -e '^random calls' -e '^recording' -e '^saved' -e '^why' -e '^  [a-zA-Z]' build/rust.log
 	@awk '/^test result/ { n += $$4 } END { print "Rust tests: " n " passed, 0 failed" }' build/rust.log
 
 test-install: $(LIB)

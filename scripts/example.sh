@@ -1,9 +1,10 @@
 #!/bin/sh
 # Builds the library and draws the telescope's cross, then the cross with last spring's fault. With
-# the argument cross, runs that example with the arguments behind it, as in `cross -s -f`; with boot,
-# boots once, saves the adapter and loads it instead of a second boot; with border, changes the border
-# in mid-frame by a copper list, and by one that waits for a wrong line; with polling, waits in loops of
-# the firmware's own, recorded, and plays the recording.
+# the argument cross, runs that example with the arguments behind it, as in `cross -s -f`, or in
+# `cross -w 31 3`, which says why that pixel is as it is; with boot, boots once, saves the adapter and
+# loads it instead of a second boot; with border, changes the border in mid-frame by a copper list, and
+# by one that waits for a wrong line; with polling, waits in loops of the firmware's own, recorded, and
+# plays the recording.
 # Installs what Debian has and this machine lacks.
 set -eu
 cd "$(dirname "$0")/.."

@@ -1,7 +1,7 @@
 /*
  * The telescope's cross, drawn by the blitter through the registers.
  *
- *   cross [-s] [-f] [X Y WIDTH [FILE]]
+ *   cross [-s] [-f] [-w X Y] [X Y WIDTH [FILE]]
  *
  * The cross, with the pair of marks that says which way to turn, lies in VRAM as a picture of even
  * width. It is drawn at pixel X, Y of the field, cropped on its right to WIDTH pixels, odd or even.
@@ -9,6 +9,8 @@
  * crop that leaves the right edge mask as it was: the field before (X lit and o dark where it is
  * wrong), the wrong pixels, and the field after. -s does the blit in single steps and lists first
  * each word done, with the nibbles that it wrote; with -f those of both drawings side by side.
+ * -w says why pixel X, Y of the field is as it is, in the drawing with the fault and in the right
+ * one, last and in place of the field, which then only -f prints. An even WIDTH has no fault.
  * What is wrong with an argument is said on stderr, with the usage, and the exit status is 2.
  */
 #include <errno.h>
@@ -26,8 +28,9 @@ enum { FIELD = 0x0000, FAULTY = 0x2000, PICTURE = 0x4000 /* VRAM addresses */ };
 static uint16_t vram[XOSERA_VRAM_MAX], xr[XOSERA_XR_WORDS];
 
 typedef struct options {
-    bool steps, fault;
+    bool steps, fault, why;
     int x, y, width;
+    int why_x, why_y; /* the pixel that is asked about */
     const char *file; /* NULL: none */
 } options;
 
@@ -37,10 +40,11 @@ typedef struct word_done {
     unsigned address, mask;
 } word_done;
 
-/* A drawing: its VRAM address, the width that its right mask belongs to, and the words done in
- * single steps. */
+/* A drawing: its VRAM address, the width that its right mask belongs to, why the pixel asked about
+ * is as it is, and the words done in single steps. */
 typedef struct drawing {
     int field, mask_width, words;
+    xosera_why_answer why;
     word_done done[CROSS_H * PITCH];
 } drawing;
 
@@ -67,6 +71,12 @@ static void store_picture(int width)
     }
 }
 
+/* The VRAM address of the word that a pixel lies in. */
+static int address(int field, int x, int y)
+{
+    return field + y * PITCH + x / 4;
+}
+
 /* Draw the picture's first `width` columns at pixel x, y. The left mask holds back the nibbles that
  * the shifter brings along from the line before. The right mask belongs to `mask_width`, which is
  * `width` but for the fault. Colour 0 is transparent. */
@@ -82,7 +92,7 @@ static void draw_cross(int field, int x, int y, int width, int mask_width)
     xreg_setw(BLIT_MOD_S, PITCH - words);
     xreg_setw(BLIT_SRC_S, PICTURE);
     xreg_setw(BLIT_MOD_D, PITCH - words);
-    xreg_setw(BLIT_DST_D, field + y * PITCH + x / 4);
+    xreg_setw(BLIT_DST_D, address(field, x, y));
     xreg_setw(BLIT_SHIFT, MAKE_BLIT_SHIFT(first_mask, last_mask, shift));
     xreg_setw(BLIT_LINES, CROSS_H - 1);
     xreg_setw(BLIT_WORDS, words - 1); /* starts the blit */
@@ -90,7 +100,9 @@ static void draw_cross(int field, int x, int y, int width, int mask_width)
 
 static void draw(drawing *d, const options *o)
 {
+    static uint16_t before[XOSERA_VRAM_MAX];
     xosera *const adapter = xosera_here();
+    memcpy(before, vram, sizeof before);
     draw_cross(d->field, o->x, o->y, o->width, d->mask_width);
     while (o->steps && adapter->state.engine.running) {
         const xosera_engine next = adapter->state.engine;
@@ -98,11 +110,15 @@ static void draw(drawing *d, const options *o)
         d->done[d->words++] = (word_done){next.line, next.word, next.regs.dst_d, adapter->mask};
     }
     xwait_blit_done();
+    if (o->why) {
+        const int at = address(d->field, o->why_x, o->why_y);
+        d->why = xosera_why_pixel(adapter, (uint64_t)at, (uint64_t)o->why_x % 4, before);
+    }
 }
 
 static int pixel(int field, int x, int y)
 {
-    return vram[field + y * PITCH + x / 4] >> (12 - 4 * (x % 4)) & 0xF;
+    return vram[address(field, x, y)] >> (12 - 4 * (x % 4)) & 0xF;
 }
 
 /* `ink` has a character each for dark, lit, dark and wrong, lit and wrong. */
@@ -154,6 +170,20 @@ static void put_words(const drawing *d, int drawings)
     putchar('\n');
 }
 
+/* Why the pixel is as it is, in the drawing with the fault, if that is another, and in the right
+ * one. */
+static void put_why(const drawing *d, const options *o)
+{
+    char text[XOSERA_WHY_TEXT];
+    printf("why pixel x %d, y %d is as it is\n", o->why_x, o->why_y);
+    for (int i = d[0].mask_width == d[1].mask_width ? 1 : 0; i < 2; i++) {
+        printf("  right mask of %2d%-23s colour %X, %s\n", d[i].mask_width,
+               d[i].field == FAULTY ? " (last spring's fault):" : ":",
+               (unsigned)pixel(d[i].field, o->why_x, o->why_y),
+               xosera_why_text(text, sizeof text, d[i].why));
+    }
+}
+
 static int even_width(int width)
 {
     return width + width % 2;
@@ -168,26 +198,10 @@ __attribute__((format(printf, 1, 2))) static bool complain(const char *format, .
     vfprintf(stderr, format, arguments);
     va_end(arguments);
     fprintf(stderr,
-            "\nusage: cross [-s] [-f] [X Y WIDTH [FILE]], inside %d by %d pixels, %d high\n",
+            "\nusage: cross [-s] [-f] [-w X Y] [X Y WIDTH [FILE]], inside %d by %d pixels, "
+            "%d high\n",
             FIELD_W, FIELD_H, CROSS_H);
     return false;
-}
-
-/* The options at the front; `*next` is the argument behind them. A number below 0 is none. */
-static bool read_flags(options *o, int argc, char **argv, int *next)
-{
-    int i = 1;
-    for (; i < argc && argv[i][0] == '-' && strchr("0123456789", argv[i][1]) == NULL; i++) {
-        if (strcmp(argv[i], "-s") == 0) {
-            o->steps = true;
-        } else if (strcmp(argv[i], "-f") == 0) {
-            o->fault = true;
-        } else {
-            return complain("there is no option %s", argv[i]);
-        }
-    }
-    *next = i;
-    return true;
 }
 
 static bool read_number(const char *name, const char *text, int *number)
@@ -210,6 +224,40 @@ static bool in_range(const char *name, int number, int low, int high)
     if (number < low || number > high) {
         return complain("%s is %d and should be %d to %d", name, number, low, high);
     }
+    return true;
+}
+
+/* The pixel behind -w, of which `n` numbers are there. */
+static bool read_pixel(options *o, int n, char **argv)
+{
+    if (n < 2) {
+        return complain("%s missing after %s", n == 0 ? "X and Y are" : "Y is", argv[n]);
+    }
+    o->why = true;
+    return read_number("X of -w", argv[1], &o->why_x) &&
+           read_number("Y of -w", argv[2], &o->why_y) &&
+           in_range("X of -w", o->why_x, 0, FIELD_W - 1) &&
+           in_range("Y of -w", o->why_y, 0, FIELD_H - 1);
+}
+
+/* The options at the front; `*next` is the argument behind them. A number below 0 is none. */
+static bool read_flags(options *o, int argc, char **argv, int *next)
+{
+    int i = 1;
+    for (; i < argc && argv[i][0] == '-' && strchr("0123456789", argv[i][1]) == NULL; i++) {
+        if (strcmp(argv[i], "-s") == 0) {
+            o->steps = true;
+        } else if (strcmp(argv[i], "-f") == 0) {
+            o->fault = true;
+        } else if (strcmp(argv[i], "-w") != 0) {
+            return complain("there is no option %s", argv[i]);
+        } else if (!read_pixel(o, argc - i - 1, argv + i)) {
+            return false;
+        } else {
+            i += 2;
+        }
+    }
+    *next = i;
     return true;
 }
 
@@ -274,7 +322,7 @@ int main(int argc, char **argv)
     drawing drawings[2] = {{.field = FAULTY, .mask_width = even},
                            {.field = FIELD, .mask_width = o.width}};
     store_picture(even);
-    for (int i = first; i < 2; i++) {
+    for (int i = o.why ? 0 : first; i < 2; i++) {
         draw(&drawings[i], &o);
     }
     if (o.steps) {
@@ -286,6 +334,11 @@ int main(int argc, char **argv)
         put_wrong_pixels();
         printf("after: right mask of %d\n", o.width);
     }
-    put_field(stdout, FIELD, ".#oX");
+    if (o.fault || !o.why) {
+        put_field(stdout, FIELD, ".#oX");
+    }
+    if (o.why) {
+        put_why(drawings, &o);
+    }
     return write_picture(o.file, drawings[first].field) ? 0 : 2;
 }

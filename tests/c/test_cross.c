@@ -1,4 +1,5 @@
-/* examples/cross: the cross at every place and of every width, pixel by pixel. */
+/* examples/cross: the cross at every place and of every width, pixel by pixel; why each pixel is as
+ * it is. */
 #define main cross_main
 #include "../../examples/cross/cross.c"
 #undef main
@@ -38,10 +39,44 @@ static void the_cross_is_right_everywhere(void **state)
     xosera_use(before);
 }
 
+/* One pixel of a drawing on a dark field: lit if and only if it was written, and never reached
+ * beside the words of the blit. */
+static void assert_why(drawing d, const options *o)
+{
+    const int column = o->why_x / 4 - o->x / 4, row = o->why_y - o->y;
+    const int words = (o->x % 4 + o->width + 3) / 4;
+    const bool reached = 0 <= column && column < words && 0 <= row && row < CROSS_H;
+    memset(vram + d.field, 0, PITCH * FIELD_H * sizeof vram[0]);
+    draw(&d, o);
+    const bool lit = pixel(d.field, o->why_x, o->why_y) != 0;
+    assert_int_equal(d.why.fate, lit       ? XOSERA_WRITTEN
+                                 : reached ? XOSERA_HELD_BACK
+                                           : XOSERA_NEVER_REACHED);
+}
+
+static void each_pixel_has_its_reason(void **state)
+{
+    (void)state;
+    xosera adapter;
+    xosera_attach(&adapter, vram, XOSERA_VRAM_MAX, xr, XOSERA_XR_WORDS);
+    adapter.on_refusal = xosera_abort_on_refusal;
+    xosera *const before = xosera_use(&adapter);
+    options o = {.why = true, .x = 10, .y = 1, .width = 21};
+    store_picture(even_width(o.width));
+    for (int i = 0; i < FIELD_W * FIELD_H; i++) {
+        o.why_x = i % FIELD_W;
+        o.why_y = i / FIELD_W;
+        assert_why((drawing){.field = FIELD, .mask_width = o.width}, &o);
+        assert_why((drawing){.field = FAULTY, .mask_width = even_width(o.width)}, &o);
+    }
+    xosera_use(before);
+}
+
 int cross_group(int *tests)
 {
     const struct CMUnitTest list[] = {
         cmocka_unit_test(the_cross_is_right_everywhere),
+        cmocka_unit_test(each_pixel_has_its_reason),
     };
     return RUN_GROUP("examples/cross", list, tests);
 }

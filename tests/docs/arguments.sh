@@ -39,6 +39,14 @@ bad 'X is 27 and should be 0 to 26' cross 27 1 21
 bad 'Y is 3 and should be 0 to 2' cross 10 3 21
 bad 'WIDTH is 0 and should be 1 to 48' cross 10 1 0
 bad 'WIDTH is 49 and should be 1 to 48' cross 0 1 49
+bad 'X and Y are missing after -w' cross -s -w
+bad 'Y is missing after 31' cross -w 31
+bad 'Y of -w is not a number: "-f"' cross -w 31 -f
+bad 'X of -w is -1 and should be 0 to 47' cross -w -1 3
+bad 'X of -w is 48 and should be 0 to 47' cross -w 48 3
+bad 'Y of -w is 11 and should be 0 to 10' cross -w 31 11
+bad 'Y of -w is far outside the field: 10000' cross -w 31 10000
+bad 'WIDTH is missing after 1' cross -w 31 3 10 1
 bad 'there is an argument too many: more' cross 10 1 21 arguments/x more
 bad 'arguments/no/x cannot be written: No such file or directory' cross 10 1 21 arguments/no/x
 [ ! -e /dev/full ] || bad '/dev/full cannot be written: No space left on device' cross 10 1 21 /dev/full
