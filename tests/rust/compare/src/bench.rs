@@ -11,8 +11,8 @@ use std::time::Instant;
 use compare::convert::{typed, words};
 use compare::copper::{instruction, position, ENABLED, JMP, MOVEC, MOVER, PROGRAM_AT, WAIT};
 use xosera::{
-    saved_bytes, BlitAnswer, LineAnswer, LoadAnswer, ReadAnswer, SaveAnswer, StateAnswer,
-    WriteAnswer,
+    saved_bytes, BlitAnswer, BlitRegs, LineAnswer, LoadAnswer, ReadAnswer, SaveAnswer, StateAnswer,
+    WhyAnswer, WriteAnswer,
 };
 
 const VRAM_WORDS: usize = 65536;
@@ -33,7 +33,7 @@ const CALLS: u64 = 4096;
 /// The words of a file: state, XR memory and VRAM.
 const FILE_WORDS: u64 = (xosera::SAVED_STATE_WORDS + xosera::XR_WORDS + VRAM_WORDS) as u64;
 
-/// A side's nine calls, on a state of type `S`.
+/// A side's ten calls, on a state of type `S`.
 #[derive(Clone, Copy)]
 struct Calls<S> {
     write_byte:
@@ -63,6 +63,7 @@ struct Calls<S> {
         *const u8,
         usize,
     ) -> LoadAnswer,
+    why: unsafe extern "C" fn(BlitRegs, *const u16, usize, *mut u16, usize, u32, u32) -> WhyAnswer,
 }
 
 const LIBRARY: Calls<xosera::State> = Calls {
@@ -75,6 +76,7 @@ const LIBRARY: Calls<xosera::State> = Calls {
     interrupt_line: xosera::ffi::xosera_interrupt_line,
     save: xosera::ffi::xosera_save,
     load: xosera::ffi::xosera_load,
+    why: xosera::ffi::xosera_why,
 };
 
 const PLAIN: Calls<model::State> = Calls {
@@ -87,6 +89,7 @@ const PLAIN: Calls<model::State> = Calls {
     interrupt_line: plain::interrupt_line,
     save: plain::save,
     load: plain::load,
+    why: plain::why,
 };
 
 /// The plain model's calls as C functions. Pointers and lengths are those of live memory, as for the
@@ -94,9 +97,12 @@ const PLAIN: Calls<model::State> = Calls {
 mod plain {
     use std::slice::{from_raw_parts, from_raw_parts_mut};
 
+    use compare::convert::blit;
+    use compare::why::numbered;
     use model::{Blitted, Refusal, State};
     use xosera::{
-        BlitAnswer, LineAnswer, LoadAnswer, ReadAnswer, SaveAnswer, StateAnswer, WriteAnswer,
+        BlitAnswer, BlitRegs, LineAnswer, LoadAnswer, ReadAnswer, SaveAnswer, StateAnswer,
+        WhyAnswer, WriteAnswer,
     };
 
     /// The refusal's number and the answer, 0 if refused.
@@ -236,9 +242,25 @@ mod plain {
         let (refusal, ()) = said((*s).load(vram, xr, file));
         LoadAnswer { refusal }
     }
+
+    #[inline(never)]
+    pub unsafe extern "C" fn why(
+        regs: BlitRegs,
+        before: *const u16,
+        before_len: usize,
+        work: *mut u16,
+        work_len: usize,
+        address: u32,
+        nibble: u32,
+    ) -> WhyAnswer {
+        let before = from_raw_parts(before, before_len);
+        let work = from_raw_parts_mut(work, work_len);
+        numbered(model::why(blit(&regs), before, work, address, nibble))
+    }
 }
 
-/// A side: its calls, the state that every round starts from, its memories, and room for a file.
+/// A side: its calls, the state that every round starts from, its memories, room for a file, and a second
+/// VRAM.
 struct Side<S> {
     calls: Calls<S>,
     start: S,
@@ -246,10 +268,11 @@ struct Side<S> {
     vram: Vec<u16>,
     xr: Vec<u16>,
     room: Vec<u8>,
+    second: Vec<u16>,
 }
 
 impl<S: Copy> Side<S> {
-    fn new(calls: Calls<S>, start: S, x: &xosera::Adapter, room: usize) -> Side<S> {
+    fn new<W: Work>(calls: Calls<S>, start: S, x: &xosera::Adapter, work: &W) -> Side<S> {
         Side {
             // Read as the loops will see it: which functions they call is not known there.
             calls: unsafe { std::ptr::read_volatile(&calls) },
@@ -257,7 +280,8 @@ impl<S: Copy> Side<S> {
             state: start,
             vram: x.vram.clone(),
             xr: x.xr.clone(),
-            room: vec![0; room],
+            room: vec![0; work.room()],
+            second: vec![0; work.second()],
         }
     }
 
@@ -270,7 +294,10 @@ impl<S: Copy> Side<S> {
     }
 
     fn memories_equal<T>(&self, other: &Side<T>) -> bool {
-        self.vram == other.vram && self.xr == other.xr && self.room == other.room
+        self.vram == other.vram
+            && self.xr == other.xr
+            && self.room == other.room
+            && self.second == other.second
     }
 }
 
@@ -280,6 +307,11 @@ trait Work {
 
     /// Bytes of room that it needs.
     fn room(&self) -> usize {
+        0
+    }
+
+    /// Words of a second VRAM that it needs.
+    fn second(&self) -> usize {
         0
     }
 }
@@ -435,6 +467,29 @@ impl Work for Load {
     }
 }
 
+/// Why a nibble in the middle of the target is as the blit of these registers leaves it.
+struct Why(BlitRegs);
+
+impl Work for Why {
+    fn done_by<S>(&self, m: &mut Side<S>) -> u64 {
+        let (v, vn) = (m.vram.as_ptr(), m.vram.len());
+        let (w, wn) = (m.second.as_mut_ptr(), m.second.len());
+        let address = u32::from(self.0.dst_d) ^ 0x8000;
+        let a = unsafe { (m.calls.why)(self.0, v, vn, w, wn, address, 2) };
+        let reasons = [a.first_mask, a.last_mask, a.colour_test];
+        let reasons = reasons.iter().fold(0, |n, &yes| 2 * n + u8::from(yes));
+        mixed(
+            u64::from(a.line) << 32 | u64::from(a.word) << 16,
+            a.fate,
+            reasons,
+        )
+    }
+
+    fn second(&self) -> usize {
+        VRAM_WORDS
+    }
+}
+
 /// The sum with an answer's two parts in it.
 fn mixed(sum: u64, upper: u8, lower: u8) -> u64 {
     sum.rotate_left(1) ^ u64::from(upper) << 8 ^ u64::from(lower)
@@ -443,8 +498,8 @@ fn mixed(sum: u64, upper: u8, lower: u8) -> u64 {
 /// Print the rates of the library and of the plain model, and their ratio.
 fn compare<W: Work>(name: &str, unit: &str, units: u64, x: &xosera::Adapter, work: W) {
     let plain_start = typed(x.state.words()).expect("a state that a call left");
-    let mut library = Side::new(LIBRARY, x.state, x, work.room());
-    let mut plain = Side::new(PLAIN, plain_start, x, work.room());
+    let mut library = Side::new(LIBRARY, x.state, x, &work);
+    let mut plain = Side::new(PLAIN, plain_start, x, &work);
     let mut best = [f64::MAX; 2];
     for _ in 0..ROUNDS {
         let (library_time, library_answers) = library.round(&work);
@@ -523,7 +578,7 @@ fn main() {
     compare("a load", "Mwords/s", FILE_WORDS, &up, Load(file));
 }
 
-/// Runs and single steps. An adapter with a blit running.
+/// Runs, single steps, and why a nibble is as it is. An adapter with a blit running.
 fn blits() -> xosera::Adapter {
     let blits = [
         ("plain copy", started(0x0000, 0x0000, 0xFF00, WIDE)),
@@ -543,6 +598,12 @@ fn blits() -> xosera::Adapter {
         let name = format!("single steps, {}", name);
         compare(&name, "Mwords/s", CALLS, x, Steps);
     }
+    for (name, x) in &blits {
+        let name = format!("why, {}", name);
+        compare(&name, "Mwords/s", WORDS, x, Why(x.state.blit));
+    }
+    let name = "why, lines of two words";
+    compare(name, "Mwords/s", WORDS, &narrow, Why(narrow.state.blit));
     let [_, (_, busy), _] = blits;
     busy
 }

@@ -27,6 +27,9 @@ const MOST_LINES: u16 = 32767;
 /// Words that a run may have to do at most.
 const LONGEST_RUN: u64 = 20_000;
 
+/// Words of a blit at most for which it is asked why a nibble is as it is.
+const LONGEST_WHY: u64 = 2_000;
+
 /// Planned beam steps of which it is not settled how many they are.
 const MANY: u64 = 0;
 
@@ -94,6 +97,36 @@ impl Calls {
             lent.xr = self.random.pick(&near).min(room.xr);
         }
         lent
+    }
+
+    /// These registers, for fewer words where they are for many.
+    pub fn shortened(&mut self, regs: xosera::BlitRegs) -> xosera::BlitRegs {
+        let words = (u64::from(regs.lines % 32768) + 1) * (u64::from(regs.words) + 1);
+        let mut regs = regs;
+        if words > LONGEST_WHY {
+            regs.lines = regs.lines & 0x8000 | self.random.below(8) as u16;
+            regs.words = self.random.below(8) as u16;
+        }
+        regs
+    }
+
+    /// An address and a nibble, mostly near the target of a blit, now and then where there is none.
+    pub fn place(&mut self, target: u16, vram: usize) -> (u32, u32) {
+        let r = &mut self.random;
+        let (target, vram) = (u32::from(target), vram as u32);
+        let near = (target + r.below(4) as u32) % vram;
+        let address = match r.below(16) {
+            0 => r.pick(&[vram, vram + 1, vram + near, 65536, 65536 + near, u32::MAX]),
+            1 => r.number() as u32,
+            2 => r.pick(&[0, vram - 1]),
+            3 => r.below(u64::from(vram)) as u32,
+            _ => near,
+        };
+        let nibble = match r.below(20) {
+            0 => r.pick(&[4, 5, 7, 8, 256, 65536, u32::MAX]),
+            _ => r.below(4) as u32,
+        };
+        (address, nibble)
     }
 
     /// Any call that fits between two others.

@@ -166,6 +166,22 @@ pub fn misfit() -> State {
     }
 }
 
+/// The library's ten blit registers as the model's.
+pub fn blit(regs: &xosera::BlitRegs) -> Blit {
+    Blit {
+        ctrl: regs.ctrl,
+        andc: regs.andc,
+        xor: regs.xor,
+        mod_s: regs.mod_s,
+        src_s: regs.src_s,
+        mod_d: regs.mod_d,
+        dst_d: regs.dst_d,
+        shift: regs.shift,
+        lines: regs.lines,
+        words: regs.words,
+    }
+}
+
 fn to_blit(w: &[u16]) -> Blit {
     Blit {
         ctrl: w[0],

@@ -11,3 +11,4 @@ pub mod random;
 pub mod recording;
 pub mod session;
 pub mod settings;
+pub mod why;

@@ -2,12 +2,13 @@
 
 use std::fmt;
 
-use crate::convert::{differences, misfit, typed, words, Words};
+use crate::convert::{blit, differences, misfit, typed, words, Words};
 use crate::copper::{any_program, PROGRAM_AT};
 use crate::random::Random;
+use crate::why::{numbered, unlike};
 
-/// A call with its arguments, or so many beam steps, at least one, one after another. A save and a load,
-/// which are lent a room or a file too, are functions of [`Pair`].
+/// A call with its arguments, or so many beam steps, at least one, one after another. A save, a load and
+/// the question why, which are lent a room, a file or a second memory too, are functions of [`Pair`].
 #[derive(Clone, Copy, Debug, PartialEq, Eq)]
 pub enum Call {
     Reset,
@@ -45,6 +46,7 @@ pub struct Lent {
 }
 
 /// Memory with room on both sides that no call may touch.
+#[derive(Clone)]
 struct Memory {
     words: Vec<u16>,
 }
@@ -267,6 +269,46 @@ impl Pair {
             Some(what) => Err(Box::new(Mismatch {
                 call: format!("load of {} bytes", file.len()),
                 lent,
+                before,
+                what,
+            })),
+        }
+    }
+
+    /// Ask on both sides why a nibble is as the blit of this state's registers leaves it, with VRAM as the
+    /// memory before, and a second memory, of words that VRAM does not have. As for every call all must
+    /// agree, the second memory too, with the words around it. The answer.
+    pub fn why(
+        &mut self,
+        before: xosera::State,
+        [vram, second]: [usize; 2],
+        address: u32,
+        nibble: u32,
+    ) -> Result<xosera::WhyAnswer, Box<Mismatch>> {
+        let words = unlike(&self.model_vram.words[..second + 2 * MARGIN]);
+        let mut library_work = Memory { words };
+        let mut model_work = library_work.clone();
+        let fenced = Fenced::new(before);
+        let lent = self.library_vram.lent(vram);
+        let work = library_work.lent(second);
+        let answer = xosera::why(fenced.state.blit, lent, work, address, nibble);
+        let lent = self.model_vram.lent(vram);
+        let work = model_work.lent(second);
+        let model = numbered(model::why(blit(&before.blit), lent, work, address, nibble));
+
+        let nothing = said(answer.refusal, 0, 0);
+        let what = if answer != model {
+            Some(format!("library says {:?}, model {:?}", answer, model))
+        } else if library_work.words != model_work.words {
+            Some("the second memory differs".to_string())
+        } else {
+            self.difference(&fenced, nothing, (*before.words(), nothing))
+        };
+        match what {
+            None => Ok(answer),
+            Some(what) => Err(Box::new(Mismatch {
+                call: format!("why {} {}, in {} words", address, nibble, second),
+                lent: Lent { vram, xr: 0 },
                 before,
                 what,
             })),

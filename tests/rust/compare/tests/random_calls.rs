@@ -18,12 +18,15 @@ const EPISODE: u64 = 1500;
 /// One call in so many is a save or a load. Each goes over all of both memories.
 const SAVED: u64 = 500;
 
+/// One call in so many asks why a nibble is as it is. Each goes over all of VRAM and of a second one.
+const WHY: u64 = 400;
+
 /// What happened, so that a run in which too little happened is seen.
 #[derive(Default)]
 struct Tally {
     calls: u64,
-    kinds: [u64; 10],
-    refusals: [u64; 11],
+    kinds: [u64; 11],
+    refusals: [u64; 16],
     lengths: [u64; 9],
     edges: Vec<u64>,
     words: u64,
@@ -69,6 +72,11 @@ struct Tally {
     scanlines: u64,
     /// Writes to `XR_COPP_CTRL` that stopped the copper.
     stopped: u64,
+    /// Questions why, refused with 1 and with 15; never reached, held back, written; held back by the first
+    /// mask, by the last, by the colour test.
+    unasked: [u64; 2],
+    fates: [u64; 3],
+    reasons: [u64; 3],
 }
 
 impl Tally {
@@ -108,6 +116,17 @@ impl Tally {
         self.count_shifter(before, stepping, said);
         self.expired += u64::from(call == Call::Tick && before.host.timer.countdown == 1);
         self.line_up += u64::from(call == Call::Line && value == 1);
+    }
+
+    fn count_why(&mut self, said: xosera::WhyAnswer) {
+        match (said.refusal, said.fate) {
+            (0, fate) => self.fates[usize::from(fate) - 1] += 1,
+            (refusal, _) => self.unasked[usize::from(refusal == 15)] += 1,
+        }
+        let reasons = [said.first_mask, said.last_mask, said.colour_test];
+        for (n, applied) in self.reasons.iter_mut().zip(reasons) {
+            *n += u64::from(applied);
+        }
     }
 
     fn count_shifter(&mut self, before: &xosera::State, stepping: bool, said: Said) {
@@ -160,7 +179,7 @@ impl Tally {
 
     fn print(&self) {
         let names = [
-            "reset", "write", "read", "step", "run", "tick", "beam", "line", "save", "load",
+            "reset", "write", "read", "step", "run", "tick", "beam", "line", "save", "load", "why",
         ];
         let kinds: Vec<String> = names
             .iter()
@@ -169,9 +188,10 @@ impl Tally {
             .collect();
         println!("  calls      {}", kinds.join(", "));
         println!(
-            "  answers    done {}, refusals 1 to 10: {:?}",
+            "  answers    done {}, refusals 1 to 10: {:?}, 15: {}",
             self.refusals[0],
-            &self.refusals[1..]
+            &self.refusals[1..11],
+            self.refusals[15]
         );
         println!(
             "  VRAM       calls by length, 256 to 65536: {:?}",
@@ -214,6 +234,10 @@ impl Tally {
             "  seen       XM_SYS_CTRL by its blank flags {:?}, XR_SCANLINE not 0 {}; copper stopped by the host {}; beam steps in bursts {}, refused {:?}",
             self.blanks, self.scanlines, self.stopped, self.bursts, self.unmoved
         );
+        println!(
+            "  whys       never reached, held back, written {:?}; by first mask, last mask, colour test {:?}; refused with 1, 15 {:?}",
+            self.fates, self.reasons, self.unasked
+        );
     }
 
     /// Everything that the papers speak of has happened.
@@ -232,7 +256,10 @@ impl Tally {
             &self.rooms[..],
             &self.files[..],
             &loaded[..],
-            &self.refusals[..],
+            &self.refusals[..11],
+            &self.unasked[..],
+            &self.fates[..],
+            &self.reasons[..],
             &self.lengths[..],
             &self.edges[..],
             &self.misfits[..],
@@ -289,6 +316,7 @@ fn named<T>(names: &[(T, &str)], numbers: &[u64]) -> String {
 
 const SAVE: usize = 8;
 const LOAD: usize = 9;
+const ASKED_WHY: usize = 10;
 
 fn kind(call: Call) -> usize {
     match call {
@@ -329,6 +357,13 @@ fn episode(calls: &mut Calls, tally: &mut Tally, length: usize, n: u64) -> Resul
         }
         if calls.random().one_in(SAVED) {
             state = save_or_load(calls, tally, &mut pair, vram, state, &mut own)
+                .map_err(|mismatch| format!("call {} of the episode\n{}", i, mismatch))?;
+            tally.calls += 1;
+            tally.lengths[length] += 1;
+            continue;
+        }
+        if calls.random().one_in(WHY) {
+            ask_why(calls, tally, &mut pair, vram, state)
                 .map_err(|mismatch| format!("call {} of the episode\n{}", i, mismatch))?;
             tally.calls += 1;
             tally.lengths[length] += 1;
@@ -445,6 +480,30 @@ fn save_or_load(
     } else {
         state
     })
+}
+
+/// A question why a nibble is as it is, of the adapter's registers, for fewer words where they are for
+/// many, and with its VRAM as the memory before. It leaves the adapter as it is.
+fn ask_why(
+    calls: &mut Calls,
+    tally: &mut Tally,
+    pair: &mut Pair,
+    vram: usize,
+    state: xosera::State,
+) -> Result<(), Box<Mismatch>> {
+    let blit = calls.shortened(state.blit);
+    let lent = calls.lend_wrong_in(20, vram, pair.room()).vram;
+    let second = match calls.random().one_in(20) {
+        true => calls.lend_wrong_in(2, vram, pair.room()).vram,
+        false => lent,
+    };
+    let (address, nibble) = calls.place(blit.dst_d, vram);
+    let before = xosera::State { blit, ..state };
+    let said = pair.why(before, [lent, second], address, nibble)?;
+    tally.kinds[ASKED_WHY] += 1;
+    tally.refusals[said.refusal as usize] += 1;
+    tally.count_why(said);
+    Ok(())
 }
 
 /// The state, mostly with beam and copper at rest, or all but one of them.

@@ -68,7 +68,7 @@ impl State {
         if !self.running {
             return Ok(Blitted { count: 0, mask: 0 });
         }
-        let mask = self.do_word(vram);
+        let (_, mask) = self.do_word(vram);
         Ok(Blitted { count: 1, mask })
     }
 
@@ -77,21 +77,21 @@ impl State {
         self.check(vram, xr)?;
         let (mut count, mut mask) = (0, 0);
         while count < n && self.running {
-            mask = self.do_word(vram);
+            (_, mask) = self.do_word(vram);
             count += 1;
         }
         Ok(Blitted { count, mask })
     }
 
-    /// One word, by the chapter's five points; its mask.
-    fn do_word(&mut self, vram: &mut [u16]) -> u8 {
+    /// One word, by the chapter's five points; its source, shifted, and its mask.
+    pub(crate) fn do_word(&mut self, vram: &mut [u16]) -> (u16, u8) {
         let s = self.source(vram);
         let result = (s & !self.copied.andc) ^ self.copied.xor;
         let mask = self.not_held_back(s);
         let at = place(self.copied.dst_d, vram.len());
         vram[at] = masked(vram[at], result, mask);
         self.go_on();
-        mask as u8
+        (s, mask as u8)
     }
 
     /// 1 and 2: the source word, shifted.
@@ -163,7 +163,7 @@ fn shifted(before: u16, word: u16, k: u16) -> u16 {
 
 /// A four-bit mask of the nibbles that the colour test holds back: those of `s` equal to T, the upper
 /// byte of `CTRL`, its upper nibble for nibbles 0 and 2, its lower for 1 and 3. With bit 5 whole bytes.
-fn colour_held(s: u16, ctrl: u16) -> u16 {
+pub(crate) fn colour_held(s: u16, ctrl: u16) -> u16 {
     let t = ctrl / 256;
     let t_twice = t * 256 + t;
     let equal = |i: u32| nibble(s, i) == nibble(t_twice, i);

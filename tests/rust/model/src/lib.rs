@@ -9,10 +9,12 @@ mod blitter;
 mod host;
 mod saved;
 mod state;
+mod why;
 mod xr;
 
 pub use blitter::{words_left, Blitted};
 pub use state::{Blit, Refusal, State};
+pub use why::{why, Account, Fate, Reach, Reasons};
 
 /// Words of XR memory: tile 5,120, colour 512, copper 1,024.
 pub const XR_WORDS: usize = 6656;

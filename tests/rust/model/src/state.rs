@@ -15,6 +15,7 @@ pub enum Refusal {
     NotSaved = 8,
     OtherVram = 9,
     NotAtRest = 10,
+    NoPlace = 15,
 }
 
 /// The blitter's ten registers in the order of their addresses, 0x40 to 0x49.

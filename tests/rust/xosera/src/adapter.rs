@@ -2,7 +2,7 @@
 
 use std::fmt;
 
-use crate::{saved_bytes, BlitAnswer, State, XR_WORDS};
+use crate::{saved_bytes, BlitAnswer, State, WhyAnswer, XR_WORDS};
 
 /// A refused call, by its number in document 01's table. It changed nothing.
 #[derive(Clone, Copy, Debug, PartialEq, Eq)]
@@ -21,6 +21,7 @@ impl fmt::Display for Refusal {
             8 => "not a saved adapter",
             9 => "saved VRAM is not as long as the memory lent",
             10 => "beam or copper not at rest",
+            15 => "nibble over 3 or address not below the VRAM length",
             _ => "unknown refusal",
         };
         write!(f, "refusal {}: {}", self.0, text)
@@ -48,6 +49,40 @@ pub struct Blitted {
 fn blitted(a: BlitAnswer) -> Result<Blitted, Refusal> {
     let (count, mask) = (a.count, a.mask);
     done(Blitted { count, mask }, a.refusal)
+}
+
+/// What a blit did to a nibble.
+#[derive(Clone, Copy, Debug, PartialEq, Eq)]
+pub enum Fate {
+    NeverReached,
+    /// No reach wrote it; all that held it back at the last.
+    HeldBack {
+        first_mask: bool,
+        last_mask: bool,
+        colour_test: bool,
+    },
+    /// The line and word, from 0, of the last write.
+    Written {
+        line: u16,
+        word: u16,
+    },
+}
+
+fn fate(a: WhyAnswer) -> Result<Fate, Refusal> {
+    done((), a.refusal)?;
+    Ok(match a.fate {
+        1 => Fate::NeverReached,
+        2 => Fate::HeldBack {
+            first_mask: a.first_mask,
+            last_mask: a.last_mask,
+            colour_test: a.colour_test,
+        },
+        3 => Fate::Written {
+            line: a.line,
+            word: a.word,
+        },
+        other => unreachable!("fate {}", other),
+    })
 }
 
 /// An adapter that owns its memories. All fields are open: a test may set up any situation.
@@ -153,5 +188,13 @@ impl Adapter {
     pub fn load(&mut self, file: &[u8]) -> Result<(), Refusal> {
         let (s, vram, xr) = (&mut self.state, &mut self.vram, &mut self.xr);
         done((), crate::load(s, vram, xr, file).refusal)
+    }
+
+    /// Why a nibble, 0 to 3 from the left, is as the blit of the registers as they stand leaves it, begun
+    /// on the memory before. That is VRAM as it was when the blit started, not as it is.
+    pub fn why(&self, before: &[u16], address: u32, nibble: u32) -> Result<Fate, Refusal> {
+        let mut work = vec![0; before.len()];
+        let regs = self.state.blit;
+        fate(crate::why(regs, before, &mut work, address, nibble))
     }
 }

@@ -96,6 +96,25 @@ pub struct BlitRegs {
     pub words: u16,
 }
 
+impl From<[u16; 10]> for BlitRegs {
+    /// The ten registers in the order of their addresses.
+    fn from(regs: [u16; 10]) -> BlitRegs {
+        let [ctrl, andc, xor, mod_s, src_s, mod_d, dst_d, shift, lines, words] = regs;
+        BlitRegs {
+            ctrl,
+            andc,
+            xor,
+            mod_s,
+            src_s,
+            mod_d,
+            dst_d,
+            shift,
+            lines,
+            words,
+        }
+    }
+}
+
 #[repr(C)]
 #[derive(Clone, Copy, Debug, Default, PartialEq, Eq)]
 pub struct Engine {
@@ -210,4 +229,18 @@ pub struct SaveAnswer {
 #[derive(Clone, Copy, Debug, PartialEq, Eq)]
 pub struct LoadAnswer {
     pub refusal: u8,
+}
+
+/// `fate` is 0 if refused, 1 for a nibble never reached, 2 for one held back, with the reasons, 3 for one
+/// written, with line and word. What does not belong to the fate is 0.
+#[repr(C)]
+#[derive(Clone, Copy, Debug, Default, PartialEq, Eq)]
+pub struct WhyAnswer {
+    pub refusal: u8,
+    pub fate: u8,
+    pub first_mask: bool,
+    pub last_mask: bool,
+    pub colour_test: bool,
+    pub line: u16,
+    pub word: u16,
 }

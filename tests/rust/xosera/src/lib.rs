@@ -1,6 +1,6 @@
 //! Safe Rust calls to `libxosera.a`, the model of the Xosera video adapter.
 //!
-//! The functions at the top level are the library's own ten calls, with the state and the memories
+//! The functions at the top level are the library's own eleven calls, with the state and the memories
 //! lent by reference.
 //! [`Adapter`] owns a state and both memories and answers with `Result`.
 //!
@@ -18,7 +18,7 @@
 mod adapter;
 mod layout;
 
-pub use adapter::{Adapter, Blitted, Refusal};
+pub use adapter::{Adapter, Blitted, Fate, Refusal};
 pub use layout::*;
 
 /// The calls as C has them.
@@ -88,6 +88,15 @@ pub mod ffi {
             file: *const u8,
             file_len: usize,
         ) -> LoadAnswer;
+        pub fn xosera_why(
+            regs: BlitRegs,
+            before: *const u16,
+            before_len: usize,
+            work: *mut u16,
+            work_len: usize,
+            address: u32,
+            nibble: u32,
+        ) -> WhyAnswer;
     }
 }
 
@@ -156,4 +165,17 @@ pub fn save(s: &State, vram: &[u16], xr: &[u16], room: &mut [u8]) -> SaveAnswer 
 pub fn load(s: &mut State, vram: &mut [u16], xr: &mut [u16], file: &[u8]) -> LoadAnswer {
     let (v, vn, x, xn) = (vram.as_mut_ptr(), vram.len(), xr.as_mut_ptr(), xr.len());
     unsafe { ffi::xosera_load(s, v, vn, x, xn, file.as_ptr(), file.len()) }
+}
+
+/// Why a nibble, 0 to 3 from the left, of the word at this address is as the blit of these registers,
+/// begun on the memory before, leaves it. The second memory ends as the blit leaves it.
+pub fn why(
+    regs: BlitRegs,
+    before: &[u16],
+    work: &mut [u16],
+    address: u32,
+    nibble: u32,
+) -> WhyAnswer {
+    let (b, bn, w, wn) = (before.as_ptr(), before.len(), work.as_mut_ptr(), work.len());
+    unsafe { ffi::xosera_why(regs, b, bn, w, wn, address, nibble) }
 }

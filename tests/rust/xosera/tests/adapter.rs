@@ -1,6 +1,6 @@
 //! The owning adapter: words, the XR space, blits, saved files, and refusals as errors.
 
-use xosera::{saved_bytes, Adapter, Blitted, Refusal};
+use xosera::{saved_bytes, Adapter, Blitted, Fate, Refusal};
 use xosera::{XM_DATA, XM_DATA_2, XM_INT_CTRL, XM_RD_ADDR, XM_SYS_CTRL, XM_WR_ADDR};
 
 fn blitted(count: u64, mask: u8) -> Result<Blitted, Refusal> {
@@ -50,6 +50,46 @@ fn a_blit_takes_a_step_a_word() {
     assert_eq!(x.blit_run(u64::MAX), blitted(2, 0xC));
     assert_eq!(x.vram[0x10..0x14], [0x0555, 0x5555, 0x5500, 0]);
     assert_eq!(x.blit_step(), blitted(0, 0));
+}
+
+/// Lines of one word, the second over the first: `MOD_D` is -1. The constant goes from 0506 to 0507, the
+/// colour test holds back 7 at the right, the masks the first and the third nibble.
+#[test]
+fn a_blit_is_explained() {
+    let mut x = Adapter::new(256);
+    x.vram.fill(0x9999);
+    let before = x.vram.clone();
+    let regs = [0xF711, 0, 0, 1, 0x0506, 0xFFFF, 0x1020, 0x7D00, 1, 0];
+    for (xaddr, word) in (0x40..).zip(regs) {
+        x.write_xr(xaddr, word).unwrap();
+    }
+    assert_eq!(x.blit_run(9), blitted(2, 0x4));
+    assert_eq!(x.vram[0x20], 0x9596);
+
+    let held = |first_mask: bool, last_mask: bool, colour_test: bool| Fate::HeldBack {
+        first_mask,
+        last_mask,
+        colour_test,
+    };
+    let why = |nibble: u32| x.why(&before, 0x20, nibble);
+    assert_eq!(why(0), Ok(held(true, false, false)));
+    assert_eq!(why(1), Ok(Fate::Written { line: 1, word: 0 }));
+    assert_eq!(why(2), Ok(held(false, true, false)));
+    assert_eq!(why(3), Ok(Fate::Written { line: 0, word: 0 }));
+    assert_eq!(x.why(&before, 0x21, 0), Ok(Fate::NeverReached));
+}
+
+/// The second memory ends as the blit leaves VRAM, whatever was in it; a refused question leaves it.
+#[test]
+fn a_second_memory_is_worked_in() {
+    let regs = [1, 0, 0, 0, 0x1234, 0, 0x1020, 0xFF00, 0, 0].into();
+    let (before, mut work) = ([0x9999; 256], [0x5A5A; 256]);
+    assert_eq!(xosera::why(regs, &before, &mut work, 256, 0).refusal, 15);
+    assert_eq!(work, [0x5A5A; 256]);
+    assert_eq!(xosera::why(regs, &before, &mut work, 255, 0).refusal, 0);
+    let mut after = before;
+    after[0x20] = 0x1234;
+    assert_eq!(work, after);
 }
 
 #[test]
@@ -129,6 +169,10 @@ fn a_refusal_is_an_error_and_changes_nothing() {
     assert_eq!(Refusal(4).to_string(), "refusal 4: register number over 15");
     assert_eq!(Adapter::new(300).blit_step(), Err(Refusal(1)));
     assert_eq!(Adapter::new(300).beam_step(), Err(Refusal(1)));
+    assert_eq!(x.why(&[0; 300], 0, 0), Err(Refusal(1)));
+    assert_eq!(x.why(&[0; 256], 0, 4), Err(Refusal(15)));
+    let no_place = "refusal 15: nibble over 3 or address not below the VRAM length";
+    assert_eq!(Refusal(15).to_string(), no_place);
     x.state.status = 128;
     assert_eq!(x.interrupt_line(), Err(Refusal(3)));
     assert_eq!(x.timer_tick(), Err(Refusal(3)));

@@ -4,9 +4,9 @@ use std::mem::{align_of, size_of};
 use std::ptr::addr_of;
 
 use xosera::{
-    BlitAnswer, LineAnswer, LoadAnswer, ReadAnswer, SaveAnswer, StateAnswer, WriteAnswer,
+    BlitAnswer, LineAnswer, LoadAnswer, ReadAnswer, SaveAnswer, StateAnswer, WhyAnswer, WriteAnswer,
 };
-use xosera::{State, STATE_WORDS};
+use xosera::{BlitRegs, State, STATE_WORDS};
 
 /// Where a field stands in its struct.
 macro_rules! place {
@@ -23,7 +23,7 @@ fn numbered() -> State {
     State::from_words(words)
 }
 
-fn ten(b: &xosera::BlitRegs) -> [u16; 10] {
+fn ten(b: &BlitRegs) -> [u16; 10] {
     [
         b.ctrl, b.andc, b.xor, b.mod_s, b.src_s, b.mod_d, b.dst_d, b.shift, b.lines, b.words,
     ]
@@ -86,6 +86,23 @@ fn answers_are_laid_out_as_in_c() {
     assert_eq!((size_of::<StateAnswer>(), size_of::<LoadAnswer>()), (1, 1));
     assert_eq!(size_of::<WriteAnswer>(), 2);
     assert_eq!((size_of::<ReadAnswer>(), size_of::<LineAnswer>()), (2, 2));
+}
+
+#[test]
+fn the_answer_to_why_is_laid_out_as_in_c() {
+    let a = WhyAnswer::default();
+    assert_eq!((size_of::<WhyAnswer>(), align_of::<WhyAnswer>()), (10, 2));
+    assert_eq!((place!(a.refusal), place!(a.fate)), (0, 1));
+    assert_eq!((place!(a.first_mask), place!(a.last_mask)), (2, 3));
+    assert_eq!(place!(a.colour_test), 4);
+    assert_eq!((place!(a.line), place!(a.word)), (6, 8));
+}
+
+#[test]
+fn ten_registers_are_words_in_their_order() {
+    let regs = [1, 2, 3, 4, 5, 6, 7, 8, 9, 10];
+    assert_eq!(ten(&BlitRegs::from(regs)), regs);
+    assert_eq!((size_of::<BlitRegs>(), align_of::<BlitRegs>()), (20, 2));
 }
 
 /// Words that no flag or byte can be, nor a beam or a stopped copper, are refused, and stay.
