@@ -4,7 +4,7 @@ use mathlib.Core.Bool.{false}
 use mathlib.Core.List.{List}
 use Prim.Native.Nat.{ℕ, zero, suc, _+_, _*_, _-_, _/_, _%_, _≤_, _<_}
 use native.Mathlib.Omega.{arith}
-use native.Mathlib.Nat.{add-mul, mul-le-mul-right, mul-add-div-right, div-eq-of-lt}
+use native.Mathlib.Nat.{add-mul, mul-le-mul-right}
 use Rattle.xosera.specs.declared.BlitRegs.{BlitRegs}
 use Rattle.xosera.specs.declared.Engine.{Engine}
 use Rattle.xosera.specs.State.{isSet}
@@ -12,6 +12,7 @@ use Rattle.xosera.specs.Adapter.{Adapter}
 use Rattle.xosera.specs.Blitter.{launched, fetched, drawn, lastStep, next, moved, steps, blitWords, engineLeft}
 use Rattle.xosera.specs.Ranges.{Running}
 use Rattle.xosera.proofs.Branches.{not-passed}
+use Rattle.xosera.proofs.Quotients.{quotient}
 use Rattle.xosera.proofs.EngineLaws.{launched-running, launched-left, left-counts, running-left, last-left, next-running, next-left}
 use Rattle.xosera.proofs.StepCases.{stepped-on, stepped-vram}
 use Rattle.xosera.proofs.StepLaws.{steps-last}
@@ -120,12 +121,9 @@ unfolding blitWords
 inside-before-end {r} {l} {w} i = omega (arith, i .word, mul-le-mul-right (r .words + 1) (i .line))
 
 -- No two lines and words count the same.
-line-counted : (w l i : ℕ) → i < w → (l * w + i) / w ≡ l
-line-counted w l i h = mul-add-div-right (omega arith) l i ∙ rw (div-eq-of-lt h) (omega arith)
-
 pub counted-once : (r : BlitRegs) (l w m i : ℕ) → w ≤ r .words → i ≤ r .words → stepOf r l w ≡ stepOf r m i → (l ≡ m) × (w ≡ i)
 counted-once r l w m i hw hi e =
     let width = r .words + 1 in
     let lines : l ≡ m =
-    sym (line-counted width l w (omega arith)) ∙ ap (λ (k : ℕ). k / width) e ∙ line-counted width m i (omega arith) in
+    sym (quotient l width w (omega arith)) ∙ ap (λ (k : ℕ). k / width) e ∙ quotient m width i (omega arith) in
     (lines, omega (arith, e, ap (λ (k : ℕ). k * width) lines))

@@ -6,7 +6,8 @@ use Rattle.reasons.specs.WhyCall.{badMemories, badPixel, whyRefusal, tol
 use Rattle.reasons.specs.Examples.{WhyExamples}
 
 pub why-examples : WhyExamples
-unfolding computing begun reachesWord writesNibble heldBackBy heldBack unlessWritten noted account whyOf drawnBy badMemories badPixel whyRefusal told workAfter numbers
+unfolding computing begun reachesWord writesNibble heldBackBy heldBack unlessWritten noted account whyOf drawnBy
+    badMemories badPixel whyRefusal told workAfter numbers
 why-examples = record {
   edges = refl;
   one-word = refl;

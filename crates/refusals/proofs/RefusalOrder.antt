@@ -11,7 +11,8 @@ use Rattle.xosera.specs.Memories.{isVramLength, isXrLength}
 use Rattle.xosera.specs.Adapter.{adapter}
 use Rattle.xosera.specs.Events.{Call, write, read, tick, beam, line, call, step, run}
 use Rattle.xosera.specs.Ranges.{inRange}
-use Rattle.xosera.specs.Refusals.{badVram, badXr, badState, badRegister, blitterFull, reconfigures, Test, _when_, lentTests, tests, first, refusal}
+use Rattle.xosera.specs.Refusals.{badVram, badXr, badState, Fit, badRegister, blitterFull, reconfigures, Test, _when_, lentTests, tests, first, refusal}
+use Rattle.xosera.proofs.RefusalLaws.{none-fit}
 use Rattle.refusals.specs.Tested.{lengthsRefusal, lentRefusal}
 
 abbrev three : Bool → Bool → Bool → List Test → List Test
@@ -91,9 +92,13 @@ module _ (s : State) (v x : List ℕ) where
     unfolding lentRefusal badVram badXr badState
     lent-first more d = lent-is ∙ three-first _ _ _ more (λ z. d (lent-is ∙ z))
 
-    lent-passed : (more : List Test) → lent ≡ 0 → first (lentTests (adapter s v x) more) ≡ first more
+    pub lent-passed : (more : List Test) → lent ≡ 0 → first (lentTests (adapter s v x) more) ≡ first more
     unfolding lentRefusal badVram badXr badState
     lent-passed more z = three-passed _ _ _ more (sym lent-is ∙ z)
+
+    pub passed-fit : lent ≡ 0 → Fit (adapter s v x)
+    unfolding first
+    passed-fit z = none-fit (adapter s v x) [] (lent-passed [] z)
 
     pub read-first : (r : ℕ) (odd : Bool) → (lent ≡ 0 → ⊥) → lent ≡ refusal (adapter s v x) (call (read r odd))
     unfolding refusal tests

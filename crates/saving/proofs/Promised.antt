@@ -14,8 +14,7 @@ use Rattle.xosera.specs.Events.{maskless}
 use Rattle.xosera.specs.Refusals.{Fit, _when_, first}
 use Rattle.xosera.proofs.Branches.{cond-yes, cond-no}
 use Rattle.refusals.specs.Tested.{lentRefusal}
-use Rattle.refusals.proofs.Accepted.{step-fit}
-use Rattle.refusals.proofs.RefusalOrder.{lent-first, step-refusal}
+use Rattle.refusals.proofs.RefusalOrder.{lent-first, passed-fit}
 use Rattle.saved_file.specs.SavedFile.{saved, held, isSaved}
 use Rattle.saved_file.specs.SaveLoad.{saveRefusal, saveAnswer, roomAfter, loadRefusal, loadAnswer, loaded, Saves, Loads}
 use Rattle.saved_file.specs.SaveLoad.{shortRoom, notAtRest, notSaved, otherLength}
@@ -61,7 +60,7 @@ module _ (ws v x : List ℕ) {lent : ℕ} (h : lent ≡ lentRefusal (length v) (
   here = adapterAt ws v x
 
   pub fit : lent ≡ 0 → Fit here
-  fit z = step-fit here (step-refusal (stateAt ws) v x ∙ sym h ∙ z)
+  fit z = passed-fit (stateAt ws) v x refl refl h z
 
   pub save-lent : (room : List ℕ) → (lent ≡ 0 → ⊥) → lent ≡ saveRefusal here room
   unfolding saveRefusal

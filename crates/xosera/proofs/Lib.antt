@@ -3,6 +3,7 @@
 pub mod Branches
 pub mod Tables
 pub mod FilledLists
+pub mod Quotients
 pub mod Computing
 pub mod ComputedTables
 pub mod MaskLaws
