@@ -125,3 +125,7 @@ hRepeat gfx = gfx / 4 % 4 + 1
 
 abbrev pub vRepeat : ℕ → ℕ
 vRepeat gfx = gfx % 4 + 1
+
+-- XR_VID_CTRL (request 6): 7:0 the colour index of the border.
+abbrev pub borderIndex : ℕ → ℕ
+borderIndex ctrl = ctrl % 256
