@@ -1,0 +1,3 @@
+-- Painting a line.
+pub mod LinePainted
+pub mod Promised

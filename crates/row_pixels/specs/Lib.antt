@@ -1,0 +1,3 @@
+-- What the functions that paint a part of a line promise.
+pub mod Fills
+pub mod RowParts
