@@ -19,17 +19,18 @@
 #include "registers.h"
 #include "texts.h"
 
-/* A call made through the handle, with its answer. Ticks and beam steps that were made in a row are
+/* A call made through the handle, with its answer. Ticks, beam steps and lines painted in a row are
  * one access. What a call does not have is 0. */
 typedef struct xosera_access {
     xosera_call call;
-    unsigned reg;   /* write and read: the register's number; of a why, the nibble's place; UINT_MAX
-                     * where it is greater */
+    unsigned reg;   /* write and read: the register's number; of a why, the nibble's place; of a
+                     * paint, the first line; UINT_MAX where it is greater */
     bool odd;       /* write and read */
     uint8_t byte;   /* written, or read */
-    uint64_t n;     /* words, ticks or beam steps asked for; a step is 1; of a why, the address */
-    uint64_t count; /* words, ticks or beam steps done; of a save, the file's length in bytes; of a
-                     * why, its fate */
+    uint64_t n;     /* words, ticks, beam steps or lines asked for; a step is 1; of a why, the
+                     * address */
+    uint64_t count; /* words, ticks, beam steps or lines done; of a save, the file's length in
+                     * bytes; of a why, its fate */
     uint8_t mask;   /* answered by a write, step or run */
     bool up;        /* answered by a line question */
     bool passing;   /* made because time passes with a byte accessed, not by the test */
@@ -42,7 +43,7 @@ typedef struct xosera_access {
 typedef struct xosera_refused {
     xosera_refusal why; /* XOSERA_DONE: no call was refused */
     xosera_call call;
-    unsigned reg; /* write and read; of a why, the nibble's place */
+    unsigned reg; /* write and read; of a why, the nibble's place; of a paint, the first line */
     bool odd;
     uint8_t byte; /* write */
     const char *file;
@@ -215,13 +216,15 @@ static inline const char *xosera_refusal_message(char *text, size_t size,
                                                  const xosera_refused *what)
 {
     char place[XOSERA_PLACE] = "";
-    char byte[60] = "";
+    char part[60] = "";
     if (what->call <= XOSERA_CALL_READ) {
-        snprintf(byte, sizeof byte, "%s byte of register %u: ", what->odd ? "odd" : "even",
+        snprintf(part, sizeof part, "%s byte of register %u: ", what->odd ? "odd" : "even",
                  what->reg);
+    } else if (what->call == XOSERA_CALL_PAINT) {
+        snprintf(part, sizeof part, "line %u: ", what->reg);
     }
     const int length = snprintf(
-        text, size, "%s%s%s refused, %d: %s", xosera_place(place, what->file, what->line), byte,
+        text, size, "%s%s%s refused, %d: %s", xosera_place(place, what->file, what->line), part,
         xosera_call_text(what->call), (int)what->why, xosera_refusal_text(what->why));
     return xosera_text_made(text, size, length);
 }
@@ -313,7 +316,7 @@ static inline xosera_access xosera_make_time(xosera *x, xosera_access what)
 }
 
 /* Make the call that is asked for, and give it back with the answer. (Save and load are made in
- * files.h, a why in why.h.) */
+ * files.h, a why in why.h, a paint in paint.h.) */
 static inline xosera_access xosera_make(xosera *x, xosera_access what)
 {
     if (what.call == XOSERA_CALL_WRITE || what.call == XOSERA_CALL_READ) {

@@ -1,6 +1,6 @@
 /* SPDX-License-Identifier: MIT */
 /*
- * State and calls: the eleven calls of libxosera.a, the state that is lent to them, what they
+ * State and calls: the twelve calls of libxosera.a, the state that is lent to them, what they
  * answer and the numbers of their refusals. docs/CALLS.md says what each call does.
  */
 #ifndef XOSERA_MODEL_CALLS_H
@@ -14,9 +14,9 @@
 #include "version.h"
 
 /* What a call can say. The lowest number that applies is given. A refused call leaves every word of
- * the state and of both memories as it was, a refused save every byte of the room; a refused read
- * gives byte 0, a refused write mask 0, a refused step or run count 0 and mask 0, a refused line
- * question no, a refused save length 0, a refused why no fate. */
+ * the state and of both memories as it was, a refused save every byte of the room, a refused paint
+ * every pixel; a refused read gives byte 0, a refused write mask 0, a refused step or run count 0
+ * and mask 0, a refused line question no, a refused save length 0, a refused why no fate. */
 typedef enum xosera_refusal {
     XOSERA_DONE = 0,
     XOSERA_VRAM_LENGTH = 1,       /* VRAM is not a power of two of words from 256 to 65,536; of a
@@ -30,6 +30,9 @@ typedef enum xosera_refusal {
     XOSERA_NO_SAVED_ADAPTER = 8,  /* file is not a saved adapter */
     XOSERA_SAVED_VRAM_LENGTH = 9, /* VRAM of the saved adapter is not as long as the memory lent */
     XOSERA_NOT_AT_REST = 10,      /* beam and copper are not at rest */
+    XOSERA_NO_BITMAP = 11,        /* playfield A is neither blank nor a bitmap of 4 or 8 bits */
+    XOSERA_NO_LINE = 12,          /* line over 479 */
+    XOSERA_PIXELS_LENGTH = 13,    /* pixels are not the 640 words of a line */
     XOSERA_NO_NIBBLE = 15         /* nibble over 3, or address not below the VRAM length */
 } xosera_refusal;
 
@@ -199,6 +202,10 @@ typedef struct xosera_why_answer {
     uint16_t word;
 } xosera_why_answer;
 
+typedef struct xosera_paint_answer {
+    uint8_t refusal;
+} xosera_paint_answer;
+
 /* The library's layout; tests/c/test_layout.c holds it against the library. */
 #ifdef __cplusplus
 #define XOSERA_ASSERT(cond, text) static_assert(cond, text)
@@ -300,6 +307,8 @@ XOSERA_AT(xosera_why_answer, last_mask, 3);
 XOSERA_AT(xosera_why_answer, colour_test, 4);
 XOSERA_AT(xosera_why_answer, line, 6);
 XOSERA_AT(xosera_why_answer, word, 8);
+XOSERA_SIZE(xosera_paint_answer, 1);
+XOSERA_AT(xosera_paint_answer, refusal, 0);
 
 XOSERA_ASSERT(offsetof(xosera_state, beam) == 2 * (size_t)XOSERA_FILE_STATE_WORDS,
               "a file holds the words before the beam");
@@ -310,14 +319,18 @@ XOSERA_ASSERT(XOSERA_FILE_VRAM_AT == XOSERA_FILE_XR_AT + 2 * XOSERA_XR_WORDS,
 XOSERA_ASSERT(XOSERA_FILE_MAX == XOSERA_FILE_BYTES(XOSERA_VRAM_MAX), "the longest file");
 XOSERA_ASSERT(XOSERA_FRAME_STEPS == XOSERA_FRAME_LINES * XOSERA_LINE_POSITIONS,
               "the steps of a frame");
+XOSERA_ASSERT(XOSERA_SCREEN_WIDTH == XOSERA_LINE_POSITIONS - XOSERA_BLANK_POSITIONS,
+              "the visible pixels of a line");
+XOSERA_ASSERT(XOSERA_SCREEN_PIXELS == XOSERA_SCREEN_WIDTH * XOSERA_VISIBLE_LINES,
+              "the pixels of a screen");
 
 #ifdef __cplusplus
 extern "C" {
 #endif
 
-/* State and memories are lent for the one call, and changed in place. State, VRAM, XR memory and
- * the bytes of a file must not overlap one another, nor must two VRAMs. Lengths are in words, those
- * of a room or a file in bytes. */
+/* State and memories are lent for the one call, and changed in place. State, VRAM, XR memory, the
+ * bytes of a file and the pixels of a line must not overlap one another, nor must two VRAMs.
+ * Lengths are in words, those of a room or a file in bytes. */
 
 /* Reset fills all words of the state: 0 but the nibble mask, 15, and XR_VID_RIGHT, 640. */
 void xosera_reset(xosera_state *s);
@@ -358,6 +371,12 @@ xosera_load_answer xosera_load(xosera_state *s, uint16_t *vram, size_t vram_len,
  * ends as the blit leaves the memory, whatever it held. */
 xosera_why_answer xosera_why(xosera_blit_regs regs, const uint16_t *before, size_t before_len,
                              uint16_t *work, size_t work_len, uint32_t address, uint32_t nibble);
+
+/* Paint a visible line of playfield A as state and memories stand: 640 words, left to right, each a
+ * colour from the first half of colour memory. Nothing else changes. */
+xosera_paint_answer xosera_paint(const xosera_state *s, const uint16_t *vram, size_t vram_len,
+                                 const uint16_t *xr, size_t xr_len, uint32_t line, uint16_t *pixels,
+                                 size_t pixels_len);
 
 #ifdef __cplusplus
 }

@@ -120,7 +120,8 @@
 #define XR_VID_HSIZE 0x0A
 #define XR_VID_VSIZE 0x0B
 
-/* XR_VID_CTRL: the playfields swap their halves of colour memory; the border's colour. */
+/* XR_VID_CTRL: the playfields swap their halves of colour memory, which painting ignores; the
+ * border's colour. */
 #define VID_CTRL_SWAP_AB_B 15
 #define VID_CTRL_BORDCOL_B 0
 #define VID_CTRL_SWAP_AB_F (1 << VID_CTRL_SWAP_AB_B)
@@ -275,7 +276,7 @@
 #define XR_TILE_SIZE    0x1400
 #define XR_COLOR_ADDR   0x8000 /* to 0x81FF */
 #define XR_COLOR_SIZE   0x0200
-#define XR_COLOR_A_ADDR 0x8000 /* playfield A's half, unless swapped */
+#define XR_COLOR_A_ADDR 0x8000 /* playfield A's half; painting goes by it also where swapped */
 #define XR_COLOR_A_SIZE 0x0100
 #define XR_COLOR_B_ADDR 0x8100
 #define XR_COLOR_B_SIZE 0x0100
@@ -292,11 +293,13 @@
 #define XOSERA_XR_COPP_AT  5632
 
 /* The frame, in native pixels. A beam step is one position; visible pixel 0 is the position behind
- * the blank ones. */
+ * the blank ones. The screen is what is seen of it, in words of one colour a pixel. */
 #define XOSERA_LINE_POSITIONS  800
 #define XOSERA_BLANK_POSITIONS 160
 #define XOSERA_FRAME_LINES     525
 #define XOSERA_VISIBLE_LINES   480
 #define XOSERA_FRAME_STEPS     420000
+#define XOSERA_SCREEN_WIDTH    640
+#define XOSERA_SCREEN_PIXELS   307200
 
 #endif /* XOSERA_MODEL_REGISTERS_H */

@@ -29,7 +29,8 @@ typedef enum xosera_call {
     XOSERA_CALL_LINE,
     XOSERA_CALL_SAVE,
     XOSERA_CALL_LOAD,
-    XOSERA_CALL_WHY
+    XOSERA_CALL_WHY,
+    XOSERA_CALL_PAINT
 } xosera_call;
 
 /* A refusal in words, for messages. */
@@ -48,6 +49,9 @@ static inline const char *xosera_refusal_text(unsigned refusal)
     case XOSERA_SAVED_VRAM_LENGTH:
         return "VRAM of the saved adapter is not as long as the memory lent";
     case XOSERA_NOT_AT_REST: return "beam and copper are not at rest";
+    case XOSERA_NO_BITMAP: return "playfield A is neither blank nor a bitmap of 4 or 8 bits";
+    case XOSERA_NO_LINE: return "line over 479";
+    case XOSERA_PIXELS_LENGTH: return "pixels are not 640 words a line";
     case XOSERA_NO_NIBBLE: return "nibble over 3, or address not below the VRAM length";
     default: return "unknown refusal";
     }
@@ -58,8 +62,8 @@ static inline const char *xosera_call_text(xosera_call call)
 {
     static const char *const calls[] = {"write",      "read",      "blit step",     "blit run",
                                         "timer tick", "beam step", "line question", "save",
-                                        "load",       "why"};
-    return (unsigned)call <= XOSERA_CALL_WHY ? calls[call] : "unknown call";
+                                        "load",       "why",       "paint"};
+    return (unsigned)call <= XOSERA_CALL_PAINT ? calls[call] : "unknown call";
 }
 
 /* A fate in words, for messages. */

@@ -46,6 +46,16 @@ static inline void xosera_trace_byte(const xosera *x, const xosera_access *what)
     }
 }
 
+/* Lines painted: one, or so many in a row. */
+static inline void xosera_trace_lines(FILE *out, unsigned first, unsigned long long lines)
+{
+    if (lines == 1) {
+        fprintf(out, ": line %u", first);
+    } else {
+        fprintf(out, ": lines %u to %llu", first, first + lines - 1);
+    }
+}
+
 /* Any other call. */
 static inline void xosera_trace_call(const xosera *x, const xosera_access *what)
 {
@@ -71,6 +81,7 @@ static inline void xosera_trace_call(const xosera *x, const xosera_access *what)
         fprintf(x->trace, ": 0x%04llX nibble %u, %s", n, what->reg,
                 xosera_fate_text((unsigned)count));
         break;
+    case XOSERA_CALL_PAINT: xosera_trace_lines(x->trace, what->reg, n); break;
     case XOSERA_CALL_WRITE:
     case XOSERA_CALL_READ:
     case XOSERA_CALL_LOAD:

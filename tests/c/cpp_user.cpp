@@ -72,5 +72,17 @@ int cpp_user()
                     "written by line 0, word 3 of the blit, both from 0") != 0) {
         return 9;
     }
-    return before->vram[0x20] == 0xC0DE ? 0 : 10;
+
+    // A line painted: eight bits a pixel, from the words that are 0x7777.
+    static uint16_t pixels[XOSERA_SCREEN_WIDTH];
+    xosera_xr_setw(&own, XR_PA_GFX_CTRL, MAKE_GFX_CTRL(0, 0, XR_GFX_BPP_8, 1, 0, 0));
+    xosera_xr_setw(&own, XR_PA_DISP_ADDR, 0x10);
+    xosera_xr_setw(&own, XR_COLOR_A_ADDR + 0x77, 0x0123);
+    if (xosera_paint_line(&own, 0, pixels, XOSERA_SCREEN_WIDTH).refusal != XOSERA_DONE ||
+        pixels[7] != 0x0123 || pixels[8] != 0 || xosera_rgb24(pixels[0]) != 0x112233 ||
+        xosera_paint_screen(&own, pixels, XOSERA_SCREEN_WIDTH).refusal != XOSERA_PIXELS_LENGTH ||
+        xosera_write_ppm("/dev/null/screen.ppm", pixels, XOSERA_SCREEN_WIDTH, 1)) {
+        return 10;
+    }
+    return before->vram[0x20] == 0xC0DE ? 0 : 11;
 }

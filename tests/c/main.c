@@ -13,6 +13,7 @@ int main(void)
     failed += queue_group(&tests);
     failed += masks_group(&tests);
     failed += why_group(&tests);
+    failed += paint_group(&tests);
     failed += order_group(&tests);
     failed += layout_group(&tests);
     failed += saved_group(&tests);

@@ -191,6 +191,18 @@ static void assert_file_refused(const xosera *x, const xosera_state *s, size_t v
     assert_state_equal(&t, s);
 }
 
+/* A paint of a line that is none, to one pixel: 1 to 3 come first. */
+static void assert_paint_refused(const xosera *x, const xosera_state *s, size_t vram_len,
+                                 size_t xr_len, xosera_refusal want)
+{
+    uint16_t pixel = 0xA5A5;
+    const xosera_state t = *s;
+    assert_int_equal(
+        xosera_paint(&t, x->vram, vram_len, x->xr, xr_len, UINT32_MAX, &pixel, 1).refusal, want);
+    assert_state_equal(&t, s);
+    assert_int_equal(pixel, 0xA5A5);
+}
+
 /* The calls that are lent the state alone. */
 static void assert_state_refused(const xosera_state *s)
 {
@@ -235,6 +247,7 @@ void assert_refused(const xosera *x, const xosera_state *s, size_t vram_len, siz
         assert_int_equal(xosera_beam_step(&t, x->vram, vram_len, x->xr, xr_len).refusal, want);
         assert_state_equal(&t, s);
         assert_file_refused(x, s, vram_len, xr_len, want);
+        assert_paint_refused(x, s, vram_len, xr_len, want);
     }
     if (want == XOSERA_STATE_RANGE) {
         assert_state_refused(s);

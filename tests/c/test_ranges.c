@@ -141,6 +141,13 @@ static void assert_accepted(const xosera *x, const xosera_state *s)
     assert_int_equal(run.refusal, XOSERA_DONE);
     assert_int_equal(run.count, s->engine.running);
     assert_saved(x, s);
+    uint16_t pixels[XOSERA_SCREEN_WIDTH];
+    t = *s;
+    t.video.pa[0] = GFX_CTRL_BLANK_F; /* any word is in range there */
+    assert_int_equal(
+        xosera_paint(&t, x->vram, x->vram_len, x->xr, x->xr_len, 479, pixels, XOSERA_SCREEN_WIDTH)
+            .refusal,
+        XOSERA_DONE);
 }
 
 static void assert_out_of_range(const xosera *x, const xosera_state *s)

@@ -85,6 +85,7 @@ int ranges_group(int *tests);
 int queue_group(int *tests);
 int masks_group(int *tests);
 int why_group(int *tests);
+int paint_group(int *tests);
 int order_group(int *tests);
 int layout_group(int *tests);
 int saved_group(int *tests);

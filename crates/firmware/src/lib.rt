@@ -1,6 +1,7 @@
 // The calls for C: the public calls under the prefix xosera_, the words of the state behind a pointer and each memory as
 // pointer and length.
 use reasons::WhyAnswer;
+use scanline::PaintAnswer;
 use xosera::BlitAnswer;
 use xosera::BlitRegs;
 use xosera::LineAnswer;
@@ -20,13 +21,14 @@ ghost use Rattle.xosera.specs.Ranges.{resetState};
 ghost use Rattle.adapter.specs.Promises.{Does};
 ghost use Rattle.saved_file.specs.SaveLoad.{ofSave, ofLoad, Saves, Loads};
 ghost use Rattle.reasons.specs.WhyCall.{Explains};
+ghost use Rattle.scanline.specs.PaintCall.{Paints};
 
-// The version, 1.1.0, of which each file that includes the C header asks by this name.
+// The version, 1.2.0, of which each file that includes the C header asks by this name.
 #[no_mangle]
-pub extern "C" fn xosera_header_needs_library_1_1_0() -> u32
-    ensures { λ r. ⌜ r ≡ 1001000 ⌝ }
+pub extern "C" fn xosera_header_needs_library_1_2_0() -> u32
+    ensures { λ r. ⌜ r ≡ 1002000 ⌝ }
 {
-    1001000
+    1002000
 }
 
 #[no_mangle]
@@ -175,4 +177,19 @@ pub extern "C" fn xosera_why(
         ⌝ }
 {
     why::why_in_numbers(regs, before, work, address, nibble)
+}
+
+#[no_mangle]
+pub extern "C" fn xosera_paint(
+    s: &[u16; STATE_WORDS],
+    vram: &[u16],
+    xr: &[u16],
+    line: u32,
+    pixels: &mut [u16],
+) -> PaintAnswer
+    ensures { λ r. ⌜
+        Paints (adapterAt (now (s .entry)) (now (vram .entry)) (now (xr .entry))) line (now (pixels .entry)) (r .refusal) (now (pixels .exit))
+        ⌝ }
+{
+    paint::paint(s, vram, xr, line, pixels)
 }
