@@ -4,6 +4,7 @@
 #   make example     draw the cross, and the cross with last spring's fault
 #   make boot        boot once and save the adapter, then load it instead
 #   make border      change the border in mid-frame by a copper list, and by one that waits for a wrong line
+#   make screen      paint the cross with its border, line by line as the beam goes, to build/screen.ppm
 #   make polling     wait in loops of the firmware's own, recorded, and play the recording
 #   make test-c      the C tests: each header alone; programs that must not compile; all tests plain, by clang, under
 #                    ASan and UBSan, under valgrind; the examples; the C of README.md and docs/; recordings
@@ -46,7 +47,7 @@ TESTS_CPP := $(wildcard tests/c/*.cpp)
 TESTS_H   := $(HEADER) $(wildcard tests/c/*.h)
 OBJECTS    = $(TESTS_C:tests/c/%.c=build/$(1)/%.o) $(TESTS_CPP:tests/c/%.cpp=build/$(1)/%.o)
 
-.PHONY: all lib example boot border polling test test-c test-headers test-rust test-install lint bench
+.PHONY: all lib example boot border screen polling test test-c test-headers test-rust test-install lint bench
 .PHONY: install uninstall dist clean
 all: lib example
 
@@ -68,6 +69,9 @@ boot: build/boot
 
 border: build/border
 	build/border
+
+screen: build/screen
+	build/screen build/screen.ppm
 
 polling: build/polling build/replay
 	build/polling -r build/polling.txt
@@ -102,6 +106,9 @@ test-c: test-headers test-compile test-docs test-replay build/plain/tests build/
 	@echo "examples/cross shows fault, single steps and why as in its fault.txt, steps.txt, fault_steps.txt and why.txt"
 	@build/border | diff examples/border/border.txt -
 	@echo "examples/border changes the border where its border.txt says"
+	@build/screen build/screen.ppm | diff examples/screen/screen.txt -
+	@pngtopam docs/screen.png | cmp - build/screen.ppm
+	@echo "examples/screen paints what its screen.txt says and docs/screen.png shows"
 	@build/polling -r build/session.txt | diff examples/polling/polling.txt -
 	@printf 'examples/polling and replay: '
 	@$(call run_tests,build/replay build/session.txt,build/replay.log)
@@ -157,7 +164,7 @@ build build/plain build/clang build/sanitized build/packaging build/dist:
 test-rust: $(LIB) | build
 	@(cd tests/rust && cargo test --release -- --nocapture) >build/rust.log 2>&1 || \
 	    { cat build/rust.log; exit 1; }
-	@grep -e '^copper' -e '^masks' -e '^order' -e '^random calls' -e '^recording' -e '^saved' -e '^why' -e '^  [a-zA-Z]' build/rust.log
+	@grep -e '^copper' -e '^masks' -e '^order' -e '^paint' -e '^random calls' -e '^recording' -e '^saved' -e '^why' -e '^  [a-zA-Z]' build/rust.log
 	@awk '/^test result/ { n += $$4 } END { print "Rust tests: " n " passed, 0 failed" }' build/rust.log
 
 test-install: $(LIB)
@@ -190,7 +197,7 @@ install: $(LIB) $(PACKAGING)
 	@install -m 644 build/packaging/xosera.pc '$(TO)/lib/pkgconfig'
 	@install -m 644 packaging/XoseraConfig.cmake build/packaging/XoseraConfigVersion.cmake '$(TO)/lib/cmake/Xosera'
 	@install -m 644 README.md CHANGELOG.md LICENSE '$(TO)/share/doc/xosera'
-	@install -m 644 docs/*.md '$(TO)/share/doc/xosera/docs'
+	@install -m 644 docs/*.md docs/*.png '$(TO)/share/doc/xosera/docs'
 	@install -m 644 docs/changes/*.md '$(TO)/share/doc/xosera/docs/changes'
 	@install -m 644 examples/*/*.c '$(TO)/share/doc/xosera/examples'
 	@echo "Xosera $(VERSION) is installed to $(TO)"

@@ -3,8 +3,9 @@
 # the argument cross, runs that example with the arguments behind it, as in `cross -s -f`, or in
 # `cross -w 31 3`, which says why that pixel is as it is; with boot, boots once, saves the adapter and
 # loads it instead of a second boot; with border, changes the border in mid-frame by a copper list, and
-# by one that waits for a wrong line; with polling, waits in loops of the firmware's own, recorded, and
-# plays the recording.
+# by one that waits for a wrong line; with screen, paints the cross with such a border line by line, to
+# build/screen.ppm; with polling, waits in loops of the firmware's own, recorded, and plays the
+# recording.
 # Installs what Debian has and this machine lacks.
 set -eu
 cd "$(dirname "$0")/.."

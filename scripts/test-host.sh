@@ -13,6 +13,7 @@ need pkg-config command -v pkg-config
 need cargo command -v cargo
 need valgrind command -v valgrind
 need libcmocka-dev test -e /usr/include/cmocka.h
+need netpbm command -v pngtopam
 install_missing
 
 make test-c

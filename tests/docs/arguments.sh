@@ -57,6 +57,9 @@ bad 'PATTERNS should be a number from 1 to 9999 and is 0' boot arguments/x 0
 bad 'arguments/no/x: cannot make a new file beside it: No such file or directory' boot arguments/no/x 1
 bad 'arguments/want: refused, 8: file is not a saved adapter' boot arguments/want 1
 bad 'there is an argument too many: 240' border 240
+bad 'there is no option -q' screen -q
+bad 'there is an argument too many: more' screen arguments/x more
+bad 'arguments/no/x cannot be written: No such file or directory' screen arguments/no/x
 bad 'not an argument: -q' polling -q
 bad 'FILE is missing after -r' polling -r
 bad 'arguments/no/x: cannot make the file: No such file or directory' polling -r arguments/no/x
@@ -64,4 +67,6 @@ bad 'FILE is missing' replay
 
 ./cross -f 0 0 48 arguments/x.pbm >/dev/null
 [ "$(sed -n 2p arguments/x.pbm)" = "48 11" ]
+./screen arguments/x.ppm >/dev/null
+[ "$(head -n 2 arguments/x.ppm | tail -n 1)" = "640 480" ]
 echo "examples: bad arguments are said in a sentence"
