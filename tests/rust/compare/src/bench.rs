@@ -11,8 +11,8 @@ use std::time::Instant;
 use compare::convert::{typed, words};
 use compare::copper::{instruction, position, ENABLED, JMP, MOVEC, MOVER, PROGRAM_AT, WAIT};
 use xosera::{
-    saved_bytes, BlitAnswer, BlitRegs, LineAnswer, LoadAnswer, ReadAnswer, SaveAnswer, StateAnswer,
-    WhyAnswer, WriteAnswer,
+    saved_bytes, BlitAnswer, BlitRegs, LineAnswer, LoadAnswer, PaintAnswer, ReadAnswer, SaveAnswer,
+    StateAnswer, WhyAnswer, WriteAnswer, SCREEN_WIDTH, VISIBLE_LINES, XR_COLOUR_AT,
 };
 
 const VRAM_WORDS: usize = 65536;
@@ -33,7 +33,10 @@ const CALLS: u64 = 4096;
 /// The words of a file: state, XR memory and VRAM.
 const FILE_WORDS: u64 = (xosera::SAVED_STATE_WORDS + xosera::XR_WORDS + VRAM_WORDS) as u64;
 
-/// A side's ten calls, on a state of type `S`.
+/// The pixels of a screen.
+const SCREEN: usize = VISIBLE_LINES as usize * SCREEN_WIDTH;
+
+/// A side's eleven calls, on a state of type `S`.
 #[derive(Clone, Copy)]
 struct Calls<S> {
     write_byte:
@@ -64,6 +67,16 @@ struct Calls<S> {
         usize,
     ) -> LoadAnswer,
     why: unsafe extern "C" fn(BlitRegs, *const u16, usize, *mut u16, usize, u32, u32) -> WhyAnswer,
+    paint: unsafe extern "C" fn(
+        *const S,
+        *const u16,
+        usize,
+        *const u16,
+        usize,
+        u32,
+        *mut u16,
+        usize,
+    ) -> PaintAnswer,
 }
 
 const LIBRARY: Calls<xosera::State> = Calls {
@@ -77,6 +90,7 @@ const LIBRARY: Calls<xosera::State> = Calls {
     save: xosera::ffi::xosera_save,
     load: xosera::ffi::xosera_load,
     why: xosera::ffi::xosera_why,
+    paint: xosera::ffi::xosera_paint,
 };
 
 const PLAIN: Calls<model::State> = Calls {
@@ -90,6 +104,7 @@ const PLAIN: Calls<model::State> = Calls {
     save: plain::save,
     load: plain::load,
     why: plain::why,
+    paint: plain::paint,
 };
 
 /// The plain model's calls as C functions. Pointers and lengths are those of live memory, as for the
@@ -101,8 +116,8 @@ mod plain {
     use compare::why::numbered;
     use model::{Blitted, Refusal, State};
     use xosera::{
-        BlitAnswer, BlitRegs, LineAnswer, LoadAnswer, ReadAnswer, SaveAnswer, StateAnswer,
-        WhyAnswer, WriteAnswer,
+        BlitAnswer, BlitRegs, LineAnswer, LoadAnswer, PaintAnswer, ReadAnswer, SaveAnswer,
+        StateAnswer, WhyAnswer, WriteAnswer,
     };
 
     /// The refusal's number and the answer, 0 if refused.
@@ -257,10 +272,29 @@ mod plain {
         let work = from_raw_parts_mut(work, work_len);
         numbered(model::why(blit(&regs), before, work, address, nibble))
     }
+
+    #[inline(never)]
+    #[allow(clippy::too_many_arguments)]
+    pub unsafe extern "C" fn paint(
+        s: *const State,
+        vram: *const u16,
+        vram_len: usize,
+        xr: *const u16,
+        xr_len: usize,
+        line: u32,
+        pixels: *mut u16,
+        pixels_len: usize,
+    ) -> PaintAnswer {
+        let vram = from_raw_parts(vram, vram_len);
+        let xr = from_raw_parts(xr, xr_len);
+        let pixels = from_raw_parts_mut(pixels, pixels_len);
+        let (refusal, ()) = said((*s).paint(vram, xr, line, pixels));
+        PaintAnswer { refusal }
+    }
 }
 
-/// A side: its calls, the state that every round starts from, its memories, room for a file, and a second
-/// VRAM.
+/// A side: its calls, the state that every round starts from, its memories, room for a file, a second
+/// VRAM, and a screen.
 struct Side<S> {
     calls: Calls<S>,
     start: S,
@@ -269,6 +303,7 @@ struct Side<S> {
     xr: Vec<u16>,
     room: Vec<u8>,
     second: Vec<u16>,
+    screen: Vec<u16>,
 }
 
 impl<S: Copy> Side<S> {
@@ -282,6 +317,7 @@ impl<S: Copy> Side<S> {
             xr: x.xr.clone(),
             room: vec![0; work.room()],
             second: vec![0; work.second()],
+            screen: vec![0; work.screen()],
         }
     }
 
@@ -298,6 +334,7 @@ impl<S: Copy> Side<S> {
             && self.xr == other.xr
             && self.room == other.room
             && self.second == other.second
+            && self.screen == other.screen
     }
 }
 
@@ -312,6 +349,11 @@ trait Work {
 
     /// Words of a second VRAM that it needs.
     fn second(&self) -> usize {
+        0
+    }
+
+    /// Words of a screen that it needs.
+    fn screen(&self) -> usize {
         0
     }
 }
@@ -490,13 +532,34 @@ impl Work for Why {
     }
 }
 
+/// A screen, line by line.
+struct Paint;
+
+impl Work for Paint {
+    fn done_by<S>(&self, m: &mut Side<S>) -> u64 {
+        let (v, vn, x, xn) = (m.vram.as_ptr(), m.vram.len(), m.xr.as_ptr(), m.xr.len());
+        let mut refused = 0;
+        for (line, pixels) in (0..).zip(m.screen.chunks_mut(SCREEN_WIDTH)) {
+            let (p, pn) = (pixels.as_mut_ptr(), pixels.len());
+            let a = unsafe { (m.calls.paint)(&m.state, v, vn, x, xn, line, p, pn) };
+            refused += u64::from(a.refusal);
+        }
+        refused
+    }
+
+    fn screen(&self) -> usize {
+        SCREEN
+    }
+}
+
 /// The sum with an answer's two parts in it.
 fn mixed(sum: u64, upper: u8, lower: u8) -> u64 {
     sum.rotate_left(1) ^ u64::from(upper) << 8 ^ u64::from(lower)
 }
 
-/// Print the rates of the library and of the plain model, and their ratio.
-fn compare<W: Work>(name: &str, unit: &str, units: u64, x: &xosera::Adapter, work: W) {
+/// Print the rates of the library and of the plain model, and their ratio. The rounds that the library
+/// does in a second.
+fn compare<W: Work>(name: &str, unit: &str, units: u64, x: &xosera::Adapter, work: W) -> f64 {
     let plain_start = typed(x.state.words()).expect("a state that a call left");
     let mut library = Side::new(LIBRARY, x.state, x, &work);
     let mut plain = Side::new(PLAIN, plain_start, x, &work);
@@ -522,6 +585,7 @@ fn compare<W: Work>(name: &str, unit: &str, units: u64, x: &xosera::Adapter, wor
         rate[0] / rate[1],
         unit
     );
+    1.0 / best[0]
 }
 
 /// An adapter just after the start of a blit.
@@ -576,6 +640,7 @@ fn main() {
     let file = busy.saved().expect("an adapter that calls left");
     compare("a save", "Mwords/s", FILE_WORDS, &busy, Save);
     compare("a load", "Mwords/s", FILE_WORDS, &up, Load(file));
+    screens(busy);
 }
 
 /// Runs, single steps, and why a nibble is as it is. An adapter with a blit running.
@@ -641,4 +706,29 @@ fn bytes(x: &xosera::Adapter) {
         compare(&writes, "Mcalls/s", CALLS, x, Writes(reg));
         compare(&reads, "Mcalls/s", CALLS, x, Reads(reg));
     }
+}
+
+/// Painted lines: a screen of rows one after another in VRAM, by each of these `GFX_CTRL` and windows.
+fn screens(x: xosera::Adapter) {
+    let mut x = x;
+    for (i, colour) in (0..).zip(&mut x.xr[XR_COLOUR_AT..][..256]) {
+        *colour = (0x0101 * i) & 0x0FFF;
+    }
+    let whole = [0, SCREEN_WIDTH as u16];
+    let mut screens = Vec::new();
+    for (name, gfx, length, [left, right]) in [
+        ("four bits", 0x0050, 160, whole),
+        ("four bits, twice as wide", 0x0055, 80, whole),
+        ("eight bits", 0x0060, 320, whole),
+        ("eight bits, twice as wide", 0x0065, 160, whole),
+        ("half of it border", 0x0050, 80, [160, 480]),
+        ("blank", 0x0080, 160, whole),
+    ] {
+        x.state.video.pa = [gfx, 0, 0, length, 0, 0, 0];
+        (x.state.video.vid_left, x.state.video.vid_right) = (left, right);
+        let row = format!("painting, {}", name);
+        let rounds = compare(&row, "Mpixels/s", SCREEN as u64, &x, Paint);
+        screens.push(format!("{} {:.0}", name, rounds));
+    }
+    println!("screens a second, library: {}", screens.join("; "));
 }

@@ -6,6 +6,7 @@ use std::collections::VecDeque;
 use crate::convert::{typed, Words, NARROW};
 use crate::copper::{any_beam, any_copper_word, any_instruction};
 use crate::copper::{BLANK, ENABLED, LINES, POSITIONS, VISIBLE};
+use crate::paint;
 use crate::pair::{Call, Lent};
 use crate::random::Random;
 use crate::settings::seed;
@@ -127,6 +128,62 @@ impl Calls {
             _ => r.below(4) as u32,
         };
         (address, nibble)
+    }
+
+    /// These registers with others for playfield A and its window, mostly such that a line can be painted,
+    /// with edges near the line's and rows near the ends of VRAM.
+    pub fn display(&mut self, video: xosera::Video) -> xosera::Video {
+        let mut video = video;
+        let gfx = match self.random.below(8) {
+            0 => self.random.word(),
+            1 => self.random.word() | paint::BLANK,
+            _ => {
+                let depth = self.random.pick(&[paint::FOUR_BITS, paint::EIGHT_BITS]);
+                self.random.word() & 0xFF0F | depth
+            }
+        };
+        let (left, right) = (self.window_edge(), self.window_edge());
+        (video.vid_left, video.vid_right) = match self.random.one_in(8) {
+            true => (left, right),
+            false => (left.min(right), left.max(right)),
+        };
+        video.vid_ctrl = self.random.word();
+        video.pa[paint::GFX_CTRL] = gfx;
+        video.pa[paint::DISP_ADDR] = self.word();
+        video.pa[paint::LINE_LEN] = match self.random.flip() {
+            true => self.random.pick(&[80, 160, 320]),
+            false => self.word(),
+        };
+        video
+    }
+
+    /// `VID_LEFT` or `VID_RIGHT`.
+    fn window_edge(&mut self) -> u16 {
+        match self.random.below(8) {
+            0 => self.word(),
+            1 => 0,
+            2 => 640,
+            3 => self.random.below(8) as u16,
+            4 => 636 + self.random.below(8) as u16,
+            _ => self.random.below(640) as u16,
+        }
+    }
+
+    /// A line, mostly one that is visible, and how many words it is to be painted in, mostly 640.
+    pub fn scanline(&mut self) -> (u32, usize) {
+        let r = &mut self.random;
+        let visible = r.below(u64::from(VISIBLE)) as u32;
+        let line = match r.below(20) {
+            0 => r.pick(&[480, 481, 524, 525, 65535, 65536, u32::MAX]),
+            1 => r.pick(&[512, 65536, 0x8000_0000]) + visible,
+            2 => r.pick(&[0, 479]),
+            _ => visible,
+        };
+        let words = match r.below(20) {
+            0 => r.pick(&[0, 1, 320, 639, 641, 642, 848, 1280]),
+            _ => xosera::SCREEN_WIDTH,
+        };
+        (line, words)
     }
 
     /// Any call that fits between two others.

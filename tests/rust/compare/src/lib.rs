@@ -6,6 +6,7 @@ pub mod copper;
 pub mod fields;
 pub mod files;
 pub mod masks;
+pub mod paint;
 pub mod pair;
 pub mod random;
 pub mod recording;

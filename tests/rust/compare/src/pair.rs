@@ -1,14 +1,16 @@
 //! One call to the library and to the plain Rust model, from the same state and memories.
 
 use std::fmt;
+use std::ptr::addr_of_mut;
 
 use crate::convert::{blit, differences, misfit, typed, words, Words};
 use crate::copper::{any_program, PROGRAM_AT};
 use crate::random::Random;
 use crate::why::{numbered, unlike};
 
-/// A call with its arguments, or so many beam steps, at least one, one after another. A save, a load and
-/// the question why, which are lent a room, a file or a second memory too, are functions of [`Pair`].
+/// A call with its arguments, or so many beam steps, at least one, one after another. A save, a load, the
+/// question why and a line that is painted, which are lent a room, a file, a second memory or pixels too,
+/// are functions of [`Pair`].
 #[derive(Clone, Copy, Debug, PartialEq, Eq)]
 pub enum Call {
     Reset,
@@ -309,6 +311,68 @@ impl Pair {
             Some(what) => Err(Box::new(Mismatch {
                 call: format!("why {} {}, in {} words", address, nibble, second),
                 lent: Lent { vram, xr: 0 },
+                before,
+                what,
+            })),
+        }
+    }
+
+    /// Paint a line on both sides, in so many words with a line around them. As for every call all must
+    /// agree, the pixels too, with the words around them. The answer.
+    pub fn paint(
+        &mut self,
+        before: xosera::State,
+        lent: Lent,
+        line: u32,
+        words: usize,
+    ) -> Result<Said, Box<Mismatch>> {
+        let around = xosera::SCREEN_WIDTH;
+        let untouched: Vec<u16> = (0..words + 2 * around)
+            .map(|i| !(40503 * i) as u16)
+            .collect();
+        let (mut library_pixels, mut model_pixels) = (untouched.clone(), untouched.clone());
+        let inner = around..around + words;
+        let mut fenced = Fenced::new(before);
+        let vram = self.library_vram.lent(lent.vram);
+        let xr = self.library_xr.lent(lent.xr);
+        let pixels = &mut library_pixels[inner.clone()];
+        // SAFETY: as in the wrapper, but by pointers that may be written through: it would be seen.
+        let a = unsafe {
+            xosera::ffi::xosera_paint(
+                addr_of_mut!(fenced.state),
+                vram.as_mut_ptr(),
+                vram.len(),
+                xr.as_mut_ptr(),
+                xr.len(),
+                line,
+                pixels.as_mut_ptr(),
+                pixels.len(),
+            )
+        };
+        let said = said(a.refusal, 0, 0);
+        let vram = self.model_vram.lent(lent.vram);
+        let xr = self.model_xr.lent(lent.xr);
+        let s = typed(before.words()).unwrap_or_else(misfit);
+        let answer = s.paint(vram, xr, line, &mut model_pixels[inner]);
+        let model = outcome(before.words(), &s, answer.map(|()| (0, 0)));
+
+        let what = self.difference(&fenced, said, model).or_else(|| {
+            match (0..untouched.len()).find(|&i| library_pixels[i] != model_pixels[i]) {
+                Some(i) => Some(format!(
+                    "pixel {}: library {:04X}, model {:04X}",
+                    i as i64 - around as i64,
+                    library_pixels[i],
+                    model_pixels[i]
+                )),
+                None if said.refusal == 0 || library_pixels == untouched => None,
+                None => Some("a refused call changed a pixel".to_string()),
+            }
+        });
+        match what {
+            None => Ok(said),
+            Some(what) => Err(Box::new(Mismatch {
+                call: format!("paint line {} in {} words", line, words),
+                lent,
                 before,
                 what,
             })),

@@ -8,6 +8,7 @@ use compare::convert::{fits, in_range, typed, NARROW};
 use compare::copper::{next_instruction, Coppers, ENABLED};
 use compare::files::{file, room, KINDS, ROOMS};
 use compare::masks::Masks;
+use compare::paint;
 use compare::pair::{Call, Lent, Mismatch, Pair, Said};
 use compare::random::Random;
 use compare::settings::{number, seed};
@@ -21,11 +22,14 @@ const SAVED: u64 = 500;
 /// One call in so many asks why a nibble is as it is. Each goes over all of VRAM and of a second one.
 const WHY: u64 = 400;
 
+/// One call in so many paints a line.
+const PAINTED: u64 = 300;
+
 /// What happened, so that a run in which too little happened is seen.
 #[derive(Default)]
 struct Tally {
     calls: u64,
-    kinds: [u64; 11],
+    kinds: [u64; 12],
     refusals: [u64; 16],
     lengths: [u64; 9],
     edges: Vec<u64>,
@@ -77,6 +81,9 @@ struct Tally {
     unasked: [u64; 2],
     fates: [u64; 3],
     reasons: [u64; 3],
+    /// Painted lines by four bits, eight bits and blank; those refused with 1 to 3 and 11 to 13.
+    painted: [u64; 3],
+    unpainted: [u64; 6],
 }
 
 impl Tally {
@@ -126,6 +133,16 @@ impl Tally {
         let reasons = [said.first_mask, said.last_mask, said.colour_test];
         for (n, applied) in self.reasons.iter_mut().zip(reasons) {
             *n += u64::from(applied);
+        }
+    }
+
+    fn count_paint(&mut self, gfx: u16, refusal: u8) {
+        let (blank, eight) = (gfx & paint::BLANK != 0, gfx & 0x70 == paint::EIGHT_BITS);
+        match usize::from(refusal) {
+            0 if blank => self.painted[2] += 1,
+            0 => self.painted[usize::from(eight)] += 1,
+            low @ 1..=3 => self.unpainted[low - 1] += 1,
+            high => self.unpainted[high - 8] += 1,
         }
     }
 
@@ -180,6 +197,7 @@ impl Tally {
     fn print(&self) {
         let names = [
             "reset", "write", "read", "step", "run", "tick", "beam", "line", "save", "load", "why",
+            "paint",
         ];
         let kinds: Vec<String> = names
             .iter()
@@ -188,9 +206,9 @@ impl Tally {
             .collect();
         println!("  calls      {}", kinds.join(", "));
         println!(
-            "  answers    done {}, refusals 1 to 10: {:?}, 15: {}",
+            "  answers    done {}, refusals 1 to 13: {:?}, 15: {}",
             self.refusals[0],
-            &self.refusals[1..11],
+            &self.refusals[1..14],
             self.refusals[15]
         );
         println!(
@@ -238,6 +256,10 @@ impl Tally {
             "  whys       never reached, held back, written {:?}; by first mask, last mask, colour test {:?}; refused with 1, 15 {:?}",
             self.fates, self.reasons, self.unasked
         );
+        println!(
+            "  lines      painted by four bits, eight bits, blank {:?}; refused with 1 to 3, 11 to 13 {:?}",
+            self.painted, self.unpainted
+        );
     }
 
     /// Everything that the papers speak of has happened.
@@ -256,7 +278,9 @@ impl Tally {
             &self.rooms[..],
             &self.files[..],
             &loaded[..],
-            &self.refusals[..11],
+            &self.refusals[..14],
+            &self.painted[..],
+            &self.unpainted[..],
             &self.unasked[..],
             &self.fates[..],
             &self.reasons[..],
@@ -317,6 +341,7 @@ fn named<T>(names: &[(T, &str)], numbers: &[u64]) -> String {
 const SAVE: usize = 8;
 const LOAD: usize = 9;
 const ASKED_WHY: usize = 10;
+const PAINT: usize = 11;
 
 fn kind(call: Call) -> usize {
     match call {
@@ -364,6 +389,13 @@ fn episode(calls: &mut Calls, tally: &mut Tally, length: usize, n: u64) -> Resul
         }
         if calls.random().one_in(WHY) {
             ask_why(calls, tally, &mut pair, vram, state)
+                .map_err(|mismatch| format!("call {} of the episode\n{}", i, mismatch))?;
+            tally.calls += 1;
+            tally.lengths[length] += 1;
+            continue;
+        }
+        if calls.random().one_in(PAINTED) {
+            paint_line(calls, tally, &mut pair, vram, state)
                 .map_err(|mismatch| format!("call {} of the episode\n{}", i, mismatch))?;
             tally.calls += 1;
             tally.lengths[length] += 1;
@@ -503,6 +535,29 @@ fn ask_why(
     tally.kinds[ASKED_WHY] += 1;
     tally.refusals[said.refusal as usize] += 1;
     tally.count_why(said);
+    Ok(())
+}
+
+/// A line painted with other registers for playfield A. It leaves the adapter as it is.
+fn paint_line(
+    calls: &mut Calls,
+    tally: &mut Tally,
+    pair: &mut Pair,
+    vram: usize,
+    state: xosera::State,
+) -> Result<(), Box<Mismatch>> {
+    let video = calls.display(state.video);
+    let state = xosera::State { video, ..state };
+    let before = match calls.random().one_in(10) {
+        true => calls.state_out_of_range(state),
+        false => state,
+    };
+    let lent = calls.lend_wrong_in(20, vram, pair.room());
+    let (line, words) = calls.scanline();
+    let said = pair.paint(before, lent, line, words)?;
+    tally.kinds[PAINT] += 1;
+    tally.refusals[said.refusal as usize] += 1;
+    tally.count_paint(before.video.pa[paint::GFX_CTRL], said.refusal);
     Ok(())
 }
 

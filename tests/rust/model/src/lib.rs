@@ -7,12 +7,14 @@
 mod beam;
 mod blitter;
 mod host;
+mod paint;
 mod saved;
 mod state;
 mod why;
 mod xr;
 
 pub use blitter::{words_left, Blitted};
+pub use paint::{Depth, Pixel, Source};
 pub use state::{Blit, Refusal, State};
 pub use why::{why, Account, Fate, Reach, Reasons};
 

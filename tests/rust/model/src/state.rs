@@ -15,6 +15,9 @@ pub enum Refusal {
     NotSaved = 8,
     OtherVram = 9,
     NotAtRest = 10,
+    NoBitmap = 11,
+    NoLine = 12,
+    PixelsLength = 13,
     NoPlace = 15,
 }
 

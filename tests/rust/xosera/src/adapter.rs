@@ -2,7 +2,7 @@
 
 use std::fmt;
 
-use crate::{saved_bytes, BlitAnswer, State, WhyAnswer, XR_WORDS};
+use crate::{saved_bytes, BlitAnswer, State, WhyAnswer, SCREEN_WIDTH, XR_WORDS};
 
 /// A refused call, by its number in document 01's table. It changed nothing.
 #[derive(Clone, Copy, Debug, PartialEq, Eq)]
@@ -21,6 +21,9 @@ impl fmt::Display for Refusal {
             8 => "not a saved adapter",
             9 => "saved VRAM is not as long as the memory lent",
             10 => "beam or copper not at rest",
+            11 => "playfield A is neither blank nor a bitmap of 4 or 8 bits",
+            12 => "line over 479",
+            13 => "pixels are not 640 words",
             15 => "nibble over 3 or address not below the VRAM length",
             _ => "unknown refusal",
         };
@@ -196,5 +199,18 @@ impl Adapter {
         let mut work = vec![0; before.len()];
         let regs = self.state.blit;
         fate(crate::why(regs, before, &mut work, address, nibble))
+    }
+
+    /// Fill 640 words with the colours of playfield A on a visible line.
+    pub fn paint(&self, line: u32, pixels: &mut [u16]) -> Result<(), Refusal> {
+        let a = crate::paint(&self.state, &self.vram, &self.xr, line, pixels);
+        done((), a.refusal)
+    }
+
+    /// The line, in words of its own.
+    pub fn painted(&self, line: u32) -> Result<Vec<u16>, Refusal> {
+        let mut pixels = vec![0; SCREEN_WIDTH];
+        self.paint(line, &mut pixels)?;
+        Ok(pixels)
     }
 }

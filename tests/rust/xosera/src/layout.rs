@@ -16,6 +16,13 @@ pub const XM_DATA_2: u8 = 11;
 /// Words of XR memory.
 pub const XR_WORDS: usize = 6656;
 
+/// Where colour memory begins in XR memory. Painted lines have the colours of its first 256 words.
+pub const XR_COLOUR_AT: usize = 5120;
+
+/// Visible lines, and the pixels of each.
+pub const VISIBLE_LINES: u32 = 480;
+pub const SCREEN_WIDTH: usize = 640;
+
 /// Bytes of a saved adapter's file (docs/SAVED.md): contents, state and XR memory, then VRAM.
 pub const fn saved_bytes(vram_words: usize) -> usize {
     28 + 2 * SAVED_STATE_WORDS + 2 * XR_WORDS + 2 * vram_words
@@ -243,4 +250,10 @@ pub struct WhyAnswer {
     pub colour_test: bool,
     pub line: u16,
     pub word: u16,
+}
+
+#[repr(C)]
+#[derive(Clone, Copy, Debug, PartialEq, Eq)]
+pub struct PaintAnswer {
+    pub refusal: u8,
 }

@@ -1,6 +1,6 @@
 //! Safe Rust calls to `libxosera.a`, the model of the Xosera video adapter.
 //!
-//! The functions at the top level are the library's own eleven calls, with the state and the memories
+//! The functions at the top level are the library's own twelve calls, with the state and the memories
 //! lent by reference.
 //! [`Adapter`] owns a state and both memories and answers with `Result`.
 //!
@@ -97,13 +97,23 @@ pub mod ffi {
             address: u32,
             nibble: u32,
         ) -> WhyAnswer;
+        pub fn xosera_paint(
+            s: *const State,
+            vram: *const u16,
+            vram_len: usize,
+            xr: *const u16,
+            xr_len: usize,
+            line: u32,
+            pixels: *mut u16,
+            pixels_len: usize,
+        ) -> PaintAnswer;
     }
 }
 
 // SAFETY, for every call below: the state is `repr(C)`, words and no padding; a slice is its pointer
-// and its length, in words for a memory, in bytes for a file and its room. All are lent for the call
-// alone and, where they are `&mut`, to nobody else, so that none overlaps another that is written. The
-// library takes slices of any length and any words as state.
+// and its length, in words for a memory and for pixels, in bytes for a file and its room. All are lent
+// for the call alone and, where they are `&mut`, to nobody else, so that none overlaps another that is
+// written. The library takes slices of any length and any words as state.
 
 /// Fill the state as after reset.
 pub fn reset(s: &mut State) {
@@ -178,4 +188,10 @@ pub fn why(
 ) -> WhyAnswer {
     let (b, bn, w, wn) = (before.as_ptr(), before.len(), work.as_mut_ptr(), work.len());
     unsafe { ffi::xosera_why(regs, b, bn, w, wn, address, nibble) }
+}
+
+/// Fill 640 words with the colours of playfield A on a visible line, 0 to 479.
+pub fn paint(s: &State, vram: &[u16], xr: &[u16], line: u32, pixels: &mut [u16]) -> PaintAnswer {
+    let (v, vn, x, xn) = (vram.as_ptr(), vram.len(), xr.as_ptr(), xr.len());
+    unsafe { ffi::xosera_paint(s, v, vn, x, xn, line, pixels.as_mut_ptr(), pixels.len()) }
 }

@@ -1,7 +1,7 @@
-//! The owning adapter: words, the XR space, blits, saved files, and refusals as errors.
+//! The owning adapter: words, the XR space, blits, saved files, painted lines, and refusals as errors.
 
 use xosera::{saved_bytes, Adapter, Blitted, Fate, Refusal};
-use xosera::{XM_DATA, XM_DATA_2, XM_INT_CTRL, XM_RD_ADDR, XM_SYS_CTRL, XM_WR_ADDR};
+use xosera::{XM_DATA, XM_DATA_2, XM_INT_CTRL, XM_RD_ADDR, XM_SYS_CTRL, XM_WR_ADDR, XM_WR_INCR};
 
 fn blitted(count: u64, mask: u8) -> Result<Blitted, Refusal> {
     Ok(Blitted { count, mask })
@@ -92,6 +92,65 @@ fn a_second_memory_is_worked_in() {
     assert_eq!(work, after);
 }
 
+/// Through the registers: two words of VRAM in a window from 4 to 13, at four bits and at eight, H repeat 2,
+/// V repeat 2; the border's colour is 9, the base 2F. Line 3 is in row 1, which starts at 0x1010 + 0x10.
+#[test]
+fn a_line_is_painted() {
+    let mut x = Adapter::new(256);
+    x.write_word(XM_WR_INCR, 1).unwrap();
+    x.write_word(XM_WR_ADDR, 0x20).unwrap();
+    x.write_word(XM_DATA, 0x1234).unwrap();
+    x.write_word(XM_DATA, 0x5678).unwrap();
+    for i in 0..512 {
+        x.write_xr(0x8000 + i, 0xA000 + i).unwrap();
+    }
+    for (xaddr, word) in [
+        (0x00, 0x8009),
+        (0x04, 4),
+        (0x05, 13),
+        (0x10, 0x2F55),
+        (0x12, 0x1010),
+        (0x13, 0x0010),
+    ] {
+        x.write_xr(xaddr, word).unwrap();
+    }
+    let mut shows = |gfx: u16, window: [u16; 9]| {
+        x.write_xr(0x10, gfx).unwrap();
+        let mut line = [0xA009; 640];
+        line[4..13].copy_from_slice(&window.map(|index| 0xA000 + index));
+        assert_eq!(x.painted(3), Ok(line.to_vec()));
+    };
+    let four = [0x21, 0x21, 0x22, 0x22, 0x23, 0x23, 0x24, 0x24, 0x25];
+    shows(0x2F55, four);
+    let eight = [0x12, 0x12, 0x34, 0x34, 0x56, 0x56, 0x78, 0x78, 0x00];
+    shows(0x2F65, eight);
+    x.write_xr(0x10, 0x2F80).unwrap();
+    assert_eq!(x.painted(3), Ok(vec![0xA026; 640]));
+}
+
+/// 480 lines of 640 words; a refused call leaves the words.
+#[test]
+fn other_lines_are_refused() {
+    let mut x = Adapter::new(256);
+    let mut pixels = [0x5A5A; 641];
+    assert_eq!(x.paint(0, &mut pixels[..640]), Err(Refusal(11)));
+    x.write_xr(0x10, 0x0050).unwrap();
+    assert_eq!(x.paint(480, &mut pixels[..640]), Err(Refusal(12)));
+    assert_eq!(x.paint(479, &mut pixels[..639]), Err(Refusal(13)));
+    assert_eq!(x.paint(479, &mut pixels), Err(Refusal(13)));
+    assert_eq!(pixels, [0x5A5A; 641]);
+    assert_eq!(x.paint(479, &mut pixels[..640]), Ok(()));
+    assert_eq!((pixels[0], pixels[639], pixels[640]), (0, 0, 0x5A5A));
+    let texts = [11, 12, 13].map(|number| Refusal(number).to_string());
+    let [no_bitmap, no_line, length] = texts;
+    assert_eq!(
+        no_bitmap,
+        "refusal 11: playfield A is neither blank nor a bitmap of 4 or 8 bits"
+    );
+    assert_eq!(no_line, "refusal 12: line over 479");
+    assert_eq!(length, "refusal 13: pixels are not 640 words");
+}
+
 #[test]
 fn time_raises_the_line() {
     let mut x = Adapter::new(256);
@@ -173,6 +232,8 @@ fn a_refusal_is_an_error_and_changes_nothing() {
     assert_eq!(x.why(&[0; 256], 0, 4), Err(Refusal(15)));
     let no_place = "refusal 15: nibble over 3 or address not below the VRAM length";
     assert_eq!(Refusal(15).to_string(), no_place);
+    assert_eq!(Adapter::new(300).painted(480), Err(Refusal(1)));
+    assert_eq!(x.painted(480), Err(Refusal(11)));
     x.state.status = 128;
     assert_eq!(x.interrupt_line(), Err(Refusal(3)));
     assert_eq!(x.timer_tick(), Err(Refusal(3)));

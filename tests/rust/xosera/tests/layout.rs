@@ -4,7 +4,8 @@ use std::mem::{align_of, size_of};
 use std::ptr::addr_of;
 
 use xosera::{
-    BlitAnswer, LineAnswer, LoadAnswer, ReadAnswer, SaveAnswer, StateAnswer, WhyAnswer, WriteAnswer,
+    BlitAnswer, LineAnswer, LoadAnswer, PaintAnswer, ReadAnswer, SaveAnswer, StateAnswer,
+    WhyAnswer, WriteAnswer,
 };
 use xosera::{BlitRegs, State, STATE_WORDS};
 
@@ -84,7 +85,7 @@ fn answers_are_laid_out_as_in_c() {
     };
     assert_eq!((size_of::<SaveAnswer>(), place!(saved.length)), (16, 8));
     assert_eq!((size_of::<StateAnswer>(), size_of::<LoadAnswer>()), (1, 1));
-    assert_eq!(size_of::<WriteAnswer>(), 2);
+    assert_eq!((size_of::<PaintAnswer>(), size_of::<WriteAnswer>()), (1, 2));
     assert_eq!((size_of::<ReadAnswer>(), size_of::<LineAnswer>()), (2, 2));
 }
 
@@ -125,6 +126,7 @@ fn words_out_of_range_are_refused() {
         assert_eq!(x.interrupt_line(), Err(xosera::Refusal(3)));
         assert_eq!(x.saved(), Err(xosera::Refusal(3)));
         assert_eq!(x.load(&file), Err(xosera::Refusal(3)));
+        assert_eq!(x.painted(0), Err(xosera::Refusal(3)));
         assert_eq!(x, before);
     }
 }
