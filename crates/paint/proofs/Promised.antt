@@ -2,13 +2,12 @@
 use mathlib.Core.Path.{_≡_, refl, sym, ap, _∙_}
 use mathlib.Core.List.{List}
 use Prim.Native.Nat.{ℕ}
-use borrow.Author.Tests.{eq-eqb, ne-eqb}
 use lib.ListN.{length}
 use Rattle.scanline.specs.declared.Playfield.{Playfield}
 use Rattle.xosera.specs.State.{stateAt}
 use Rattle.xosera.specs.Adapter.{Adapter, adapterAt}
 use Rattle.xosera.specs.Refusals.{first}
-use Rattle.xosera.proofs.Branches.{cond-yes, cond-no}
+use Rattle.xosera.proofs.Branches.{cond-done, cond-refused}
 use Rattle.refusals.specs.Tested.{lentRefusal}
 use Rattle.refusals.proofs.RefusalOrder.{lent-first, lent-passed}
 use Rattle.scanline.specs.Scanline.{playfieldA, painted}
@@ -18,7 +17,7 @@ use Rattle.scanline.proofs.RefusalOrder.{right-width}
 module _ (a : Adapter) (line : ℕ) (pixels : List ℕ) where
   refused : {r : ℕ} → r ≡ paintRefusal a line (length pixels) → (r ≡ 0 → ⊥) → Paints a line pixels r pixels
   unfolding pixelsAfter
-  refused h d = record { answers = h; leaves = sym (cond-no _ pixels (ne-eqb _ 0 (λ z. d (h ∙ z)))) }
+  refused h d = record { answers = h; leaves = sym (cond-refused _ pixels h d) }
 
   done : {after : List ℕ} → paintRefusal a line (length pixels) ≡ 0
       → after ≡ painted (length pixels) (playfieldA (a .side .video)) (a .vram) (a .side .xr) line → Paints a line pixels 0 after
@@ -27,7 +26,7 @@ module _ (a : Adapter) (line : ℕ) (pixels : List ℕ) where
     answers = sym z;
     leaves =
         e ∙ ap (λ (n : ℕ). painted n (playfieldA (a .side .video)) (a .vram) (a .side .xr) line) (right-width a line (length pixels) z)
-        ∙ sym (cond-yes _ pixels (eq-eqb _ 0 z));
+        ∙ sym (cond-done _ pixels refl z);
   }
 
 -- With the refusals as the code has them, 1 to 3 first.

@@ -6,11 +6,10 @@ use Prim.Native.Nat.{ℕ, _≤_, _<_}
 use native.Mathlib.Omega.{arith}
 use lib.ListN.{length, getD, take}
 use lib.Seq.{length-take-le, getD-take}
-use borrow.Author.Tests.{eq-eqb, ne-eqb}
 use Rattle.scanline.specs.declared.Playfield.{Playfield}
 use Rattle.xosera.specs.Memories.{word}
 use Rattle.xosera.specs.Adapter.{Side, Adapter}
-use Rattle.xosera.proofs.Branches.{cond-yes, cond-no, parts}
+use Rattle.xosera.proofs.Branches.{cond-done, cond-refused, parts}
 use Rattle.scanline.specs.Scanline.{playfieldA, inWindow, colourIndex, colour, across, painted}
 use Rattle.scanline.specs.PaintCall.{screenWidth, pixelsAfter, Paints}
 use Rattle.scanline.specs.Claims.{shownAddress, Outside, WholeLine, Done, TwoCalls, ScanlineClaims}
@@ -40,10 +39,8 @@ module _ (a : Adapter) (line : ℕ) (pixels : List ℕ) (refusal : ℕ) (after :
   calls : Done a line pixels refusal after
   unfolding pixelsAfter
   calls = record {
-    done = λ z.
-        let zero = sym (c .answers) ∙ z in
-        (right-width a line (length pixels) zero, c .leaves ∙ cond-yes _ pixels (eq-eqb _ 0 zero));
-    refused = λ d. c .leaves ∙ cond-no _ pixels (ne-eqb _ 0 (λ z. d (c .answers ∙ z)));
+    done = λ z. (right-width a line (length pixels) (sym (c .answers) ∙ z), c .leaves ∙ cond-done _ pixels (c .answers) z);
+    refused = λ d. c .leaves ∙ cond-refused _ pixels (c .answers) d;
   }
 
 -- A pixel by the word that it shows, if it shows one.

@@ -6,7 +6,7 @@ use mathlib.Core.Logic.{_↔_}
 use Prim.Native.Nat.{ℕ, _≤_}
 use lib.Dec.{T, eqb, leb}
 use lib.ListN.{length}
-use borrow.Author.Tests.{eqb-true, eq-eqb, leb-true, le-leb}
+use borrow.Author.Tests.{eqb-true, eq-eqb, ne-eqb, leb-true, le-leb}
 
 module _ {ℓ} {A : Type ℓ} where
   pub cond-yes : {b : Bool} (x y : A) → b ≡ true → cond b x y ≡ x
@@ -14,6 +14,14 @@ module _ {ℓ} {A : Type ℓ} where
 
   pub cond-no : {b : Bool} (x y : A) → b ≡ false → cond b x y ≡ y
   cond-no x y h = rw h
+
+  -- What a call leaves that is refused with n, 0 for done, and answers r.
+  module _ {n r : ℕ} (x y : A) (e : r ≡ n) where
+    pub cond-done : r ≡ 0 → cond (eqb n 0) x y ≡ x
+    cond-done z = cond-yes x y (eq-eqb n 0 (sym e ∙ z))
+
+    pub cond-refused : (r ≡ 0 → ⊥) → cond (eqb n 0) x y ≡ y
+    cond-refused d = cond-no x y (ne-eqb n 0 (λ z. d (e ∙ z)))
 
   -- What follows from the test for the one choice and from its failing for the other holds of the chosen one.
   pub cond-cases : (P : A → Type 0) (b : Bool) (x y : A) → (b ≡ true → P x) → (b ≡ false → P y) → P (cond b x y)

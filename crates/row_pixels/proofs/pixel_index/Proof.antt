@@ -2,17 +2,13 @@
 use mathlib.Core.Path.{_≡_, refl, sym, ap₂, _∙_}
 use Prim.Native.Nat.{ℕ, _+_, _*_, _-_, _/_, _%_, _^_, _<_}
 use native.Mathlib.Omega.{arith}
-use Rattle.xosera.specs.Words.{nibble}
 use Rattle.xosera.specs.Fields.{colourBase}
+use Rattle.xosera.proofs.Quotients.{nibble-at}
 use Rattle.xosera.proofs.Tables.{_and_, below-each}
 use Rattle.scanline.specs.Scanline.{pixelIndex}
 use borrow.Author.Needs.{needs}
 use Rattle.row_pixels.proofs.pixel_index.Statement.{statement}
 use Rattle.row_pixels.proofs.pixel_index.Tie as tie
-
-nibble-there : (w k : ℕ) → k < 4 → w / 2 ^ (12 - k * 4) % 16 ≡ nibble (3 - k) w
-unfolding nibble
-nibble-there w = below-each (λ (k : ℕ). w / 2 ^ (12 - k * 4) % 16 ≡ w / 16 ^ (3 - k) % 16) 4 (refl and refl and refl and refl and tt)
 
 byte-there : (w k : ℕ) → k < 2 → w / 2 ^ (8 - k * 8) % 256 ≡ w / 256 ^ (1 - k) % 256
 byte-there w = below-each (λ (k : ℕ). w / 2 ^ (8 - k * 8) % 256 ≡ w / 256 ^ (1 - k) % 256) 2 (refl and refl and tt)
@@ -44,7 +40,7 @@ returns c =
     let start = c .before .before .before in
     let four = sym (c .before .before .four-bits .ensures) ∙ c .before .if1 .taken in
     let base : start .args .p .gfx / 4096 * 16 ≡ colourBase (start .args .p .gfx) / 16 * 16 = omega arith in
-    rw four (ap₂ _+_ base (nibble-there (start .args .word) (start .args .pixel % 4) (omega arith)))
+    rw four (ap₂ _+_ base (nibble-at 3 (start .args .word) (start .args .pixel % 4) (omega arith)))
 
 mul-result-3 : tie.Need-mul-result-3
 mul-result-3 c = search needs
