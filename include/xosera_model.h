@@ -4,7 +4,7 @@
  *
  * xosera/registers.h  Constants: main registers, XR registers, XR memories, bits; makers of words.
  * xosera/version.h    The version, and the library that it needs.
- * xosera/calls.h      The library: state, answers and the twelve calls of libxosera.a.
+ * xosera/calls.h      The library: state, answers and the fourteen calls of libxosera.a.
  * xosera/texts.h      Names and words for messages.
  * xosera/adapter.h    The adapter: a state with its two memories, settings, hooks, refusals.
  * xosera/passing.h    How time passes: steps, ticks, the beam, waits, the board's rates.
@@ -12,7 +12,8 @@
  * xosera/state.h      States compared and shown.
  * xosera/why.h        Why a pixel is as it is: which word of a blit wrote it, or what held it back.
  * xosera/files.h      Files: an adapter is saved under a name and loaded again.
- * xosera/paint.h      The picture: lines and the whole screen painted, and written as a file.
+ * xosera/paint.h      The picture: lines and the whole screen painted, in colours or in levels of
+ *                     grey, and written as a file.
  * xosera/trace.h      A trace: a line of text for every call.
  * xosera/recording.h  Recorded sessions: every call with its answer, as text.
  * xosera/replay.h     A recorded session played again on another build.

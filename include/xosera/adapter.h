@@ -220,7 +220,7 @@ static inline const char *xosera_refusal_message(char *text, size_t size,
     if (what->call <= XOSERA_CALL_READ) {
         snprintf(part, sizeof part, "%s byte of register %u: ", what->odd ? "odd" : "even",
                  what->reg);
-    } else if (what->call == XOSERA_CALL_PAINT) {
+    } else if (what->call == XOSERA_CALL_PAINT || what->call == XOSERA_CALL_PAINT_GREY) {
         snprintf(part, sizeof part, "line %u: ", what->reg);
     }
     const int length = snprintf(

@@ -1,6 +1,6 @@
 /* SPDX-License-Identifier: MIT */
 /*
- * State and calls: the twelve calls of libxosera.a, the state that is lent to them, what they
+ * State and calls: the fourteen calls of libxosera.a, the state that is lent to them, what they
  * answer and the numbers of their refusals. docs/CALLS.md says what each call does.
  */
 #ifndef XOSERA_MODEL_CALLS_H
@@ -206,6 +206,9 @@ typedef struct xosera_paint_answer {
     uint8_t refusal;
 } xosera_paint_answer;
 
+/* The levels of a monochrome tube, from 0, black, to 15, white. */
+#define XOSERA_GREY_LEVELS 16
+
 /* The library's layout; tests/c/test_layout.c holds it against the library. */
 #ifdef __cplusplus
 #define XOSERA_ASSERT(cond, text) static_assert(cond, text)
@@ -377,6 +380,15 @@ xosera_why_answer xosera_why(xosera_blit_regs regs, const uint16_t *before, size
 xosera_paint_answer xosera_paint(const xosera_state *s, const uint16_t *vram, size_t vram_len,
                                  const uint16_t *xr, size_t xr_len, uint32_t line, uint16_t *pixels,
                                  size_t pixels_len);
+
+/* The level of a colour 0xRGB: (299 R + 587 G + 114 B + 500) / 1000, rounded down. The top four
+ * bits are ignored. It refuses nothing. */
+uint8_t xosera_grey(uint16_t colour);
+
+/* Paint a line in levels: as xosera_paint, refusals too, with each word taken to its level. */
+xosera_paint_answer xosera_paint_grey(const xosera_state *s, const uint16_t *vram, size_t vram_len,
+                                      const uint16_t *xr, size_t xr_len, uint32_t line,
+                                      uint16_t *pixels, size_t pixels_len);
 
 #ifdef __cplusplus
 }

@@ -88,6 +88,7 @@ static inline size_t xosera_call_line(char *text, size_t size, const xosera_acce
     case XOSERA_CALL_LOAD:
     case XOSERA_CALL_WHY:
     case XOSERA_CALL_PAINT:
+    case XOSERA_CALL_PAINT_GREY:
     default: return 0;
     }
     return (size_t)(strchr(text, '=') - text);

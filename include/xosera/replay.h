@@ -137,6 +137,7 @@ static inline bool xosera_play_answer(const xosera_player *p, xosera_access what
     case XOSERA_CALL_LOAD:
     case XOSERA_CALL_WHY:
     case XOSERA_CALL_PAINT:
+    case XOSERA_CALL_PAINT_GREY:
     default: return false;
     }
 }

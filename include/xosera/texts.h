@@ -30,7 +30,8 @@ typedef enum xosera_call {
     XOSERA_CALL_SAVE,
     XOSERA_CALL_LOAD,
     XOSERA_CALL_WHY,
-    XOSERA_CALL_PAINT
+    XOSERA_CALL_PAINT,
+    XOSERA_CALL_PAINT_GREY
 } xosera_call;
 
 /* A refusal in words, for messages. */
@@ -62,8 +63,8 @@ static inline const char *xosera_call_text(xosera_call call)
 {
     static const char *const calls[] = {"write",      "read",      "blit step",     "blit run",
                                         "timer tick", "beam step", "line question", "save",
-                                        "load",       "why",       "paint"};
-    return (unsigned)call <= XOSERA_CALL_PAINT ? calls[call] : "unknown call";
+                                        "load",       "why",       "paint",         "paint grey"};
+    return (unsigned)call <= XOSERA_CALL_PAINT_GREY ? calls[call] : "unknown call";
 }
 
 /* A fate in words, for messages. */

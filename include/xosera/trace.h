@@ -81,7 +81,8 @@ static inline void xosera_trace_call(const xosera *x, const xosera_access *what)
         fprintf(x->trace, ": 0x%04llX nibble %u, %s", n, what->reg,
                 xosera_fate_text((unsigned)count));
         break;
-    case XOSERA_CALL_PAINT: xosera_trace_lines(x->trace, what->reg, n); break;
+    case XOSERA_CALL_PAINT:
+    case XOSERA_CALL_PAINT_GREY: xosera_trace_lines(x->trace, what->reg, n); break;
     case XOSERA_CALL_WRITE:
     case XOSERA_CALL_READ:
     case XOSERA_CALL_LOAD:

@@ -1,7 +1,7 @@
 /* SPDX-License-Identifier: MIT */
 /*
  * The version of this header, and the library that it needs. Beside a library of another version a
- * program does not link: xosera_header_needs_library_1_2_0 is undefined.
+ * program does not link: xosera_header_needs_library_1_3_0 is undefined.
  */
 #ifndef XOSERA_MODEL_VERSION_H
 #define XOSERA_MODEL_VERSION_H
@@ -9,9 +9,9 @@
 #include <stdint.h>
 
 #define XOSERA_VERSION_MAJOR 1
-#define XOSERA_VERSION_MINOR 2
+#define XOSERA_VERSION_MINOR 3
 #define XOSERA_VERSION_PATCH 0
-#define XOSERA_VERSION       "1.2.0"
+#define XOSERA_VERSION       "1.3.0"
 
 /* For #if: 1.2.3 is 1002003. */
 #define XOSERA_VERSION_NUMBER                                                                      \
@@ -22,7 +22,7 @@ extern "C" {
 #endif
 
 /* The library's XOSERA_VERSION_NUMBER. A library has the function of its own version alone. */
-uint32_t xosera_header_needs_library_1_2_0(void);
+uint32_t xosera_header_needs_library_1_3_0(void);
 
 #ifdef __cplusplus
 }
@@ -39,6 +39,6 @@ uint32_t xosera_header_needs_library_1_2_0(void);
 #define XOSERA_KEPT __attribute__((used))
 #endif
 XOSERA_KEPT static uint32_t (*const xosera_library_needed)(void) =
-    xosera_header_needs_library_1_2_0;
+    xosera_header_needs_library_1_3_0;
 
 #endif /* XOSERA_MODEL_VERSION_H */

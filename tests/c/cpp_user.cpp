@@ -84,5 +84,14 @@ int cpp_user()
         xosera_write_ppm("/dev/null/screen.ppm", pixels, XOSERA_SCREEN_WIDTH, 1)) {
         return 10;
     }
-    return before->vram[0x20] == 0xC0DE ? 0 : 11;
+
+    // The same line in levels.
+    if (xosera_paint_grey_line(&own, 0, pixels, XOSERA_SCREEN_WIDTH).refusal != XOSERA_DONE ||
+        pixels[7] != 2 || pixels[8] != 0 || xosera_grey(0x0123) != 2 ||
+        xosera_paint_grey_screen(&own, pixels, XOSERA_SCREEN_WIDTH).refusal !=
+            XOSERA_PIXELS_LENGTH ||
+        xosera_write_pgm("/dev/null/screen.pgm", pixels, XOSERA_SCREEN_WIDTH, 1)) {
+        return 11;
+    }
+    return before->vram[0x20] == 0xC0DE ? 0 : 12;
 }

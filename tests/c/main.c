@@ -14,6 +14,8 @@ int main(void)
     failed += masks_group(&tests);
     failed += why_group(&tests);
     failed += paint_group(&tests);
+    failed += grey_group(&tests);
+    failed += picture_group(&tests);
     failed += order_group(&tests);
     failed += layout_group(&tests);
     failed += saved_group(&tests);

@@ -191,7 +191,7 @@ static void assert_file_refused(const xosera *x, const xosera_state *s, size_t v
     assert_state_equal(&t, s);
 }
 
-/* A paint of a line that is none, to one pixel: 1 to 3 come first. */
+/* Paints of a line that is none, to one pixel: 1 to 3 come first. */
 static void assert_paint_refused(const xosera *x, const xosera_state *s, size_t vram_len,
                                  size_t xr_len, xosera_refusal want)
 {
@@ -199,6 +199,9 @@ static void assert_paint_refused(const xosera *x, const xosera_state *s, size_t 
     const xosera_state t = *s;
     assert_int_equal(
         xosera_paint(&t, x->vram, vram_len, x->xr, xr_len, UINT32_MAX, &pixel, 1).refusal, want);
+    assert_int_equal(
+        xosera_paint_grey(&t, x->vram, vram_len, x->xr, xr_len, UINT32_MAX, &pixel, 1).refusal,
+        want);
     assert_state_equal(&t, s);
     assert_int_equal(pixel, 0xA5A5);
 }

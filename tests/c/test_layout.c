@@ -1,5 +1,5 @@
 /* The header against the library. Nothing else checks that both mean the same word by a field. */
-#include "tests.h"
+#include "painting.h"
 
 /* The fields in the order of their words. */
 typedef struct field {
@@ -521,22 +521,27 @@ static void the_registers_of_a_why_are_in_their_place(void **state)
     }
 }
 
-static void the_answer_of_a_paint_is_in_its_place(void **state)
+static void assert_answers(const painter *p, xosera *x)
 {
     static const uint8_t want[] = {XOSERA_DONE, XOSERA_NO_BITMAP, XOSERA_NO_LINE,
                                    XOSERA_PIXELS_LENGTH};
-    xosera *x = (xosera *)*state;
     for (unsigned i = 0; i < 4; i++) {
         uint16_t pixels[640];
         uint8_t got[sizeof(xosera_paint_answer)];
         x->state.video.pa[0] = i == 1 ? 0x0000 : 0x0050;
-        const xosera_paint_answer a =
-            xosera_paint(&x->state, x->vram, x->vram_len, x->xr, x->xr_len, i == 2 ? 480 : 479,
-                         pixels, i == 3 ? 639 : 640);
+        const xosera_paint_answer a = p->paint(&x->state, x->vram, x->vram_len, x->xr, x->xr_len,
+                                               i == 2 ? 480 : 479, pixels, i == 3 ? 639 : 640);
         memcpy(got, &a, sizeof got);
         assert_int_equal(sizeof got, 1);
         assert_int_equal(got[0], want[i]);
     }
+}
+
+static void the_answer_of_a_paint_is_in_its_place(void **state)
+{
+    xosera *x = (xosera *)*state;
+    assert_answers(&in_colours, x);
+    assert_answers(&in_levels, x);
 }
 
 /* The words of the state by which a line is painted: XR_VID_CTRL, XR_VID_LEFT, XR_VID_RIGHT and
@@ -547,30 +552,35 @@ static bool paints(unsigned word)
 }
 
 /* With another lowest bit in one of these the line is another; in any other word it is not. */
-static void the_words_of_a_paint_are_in_their_place(void **state)
+static void assert_words_paint(const painter *p, const xosera *x)
 {
-    const xosera *x = (xosera *)*state;
     xosera_state s = idle_state();
     uint16_t plain[640], pixels[640], words[XOSERA_STATE_WORDS];
     unsigned tried = 0;
     xosera_state_set(&s, 49, 100);
     xosera_state_set(&s, 50, 500);
     xosera_state_set(&s, 51, 0xC050);
-    assert_int_equal(
-        xosera_paint(&s, x->vram, x->vram_len, x->xr, x->xr_len, 7, plain, 640).refusal, 0);
+    assert_int_equal(p->paint(&s, x->vram, x->vram_len, x->xr, x->xr_len, 7, plain, 640).refusal,
+                     0);
     for (unsigned i = 0; i < XOSERA_STATE_WORDS; i++) {
         xosera_state t = s;
         xosera_state_set(&t, i, xosera_state_get(&s, i) ^ 1);
         memcpy(words, &t, sizeof words);
         if (words_in_range(words)) {
             assert_int_equal(
-                xosera_paint(&t, x->vram, x->vram_len, x->xr, x->xr_len, 7, pixels, 640).refusal,
-                0);
+                p->paint(&t, x->vram, x->vram_len, x->xr, x->xr_len, 7, pixels, 640).refusal, 0);
             assert_int_equal(memcmp(pixels, plain, sizeof plain) != 0, paints(i));
             tried++;
         }
     }
     assert_true(tried > 60);
+}
+
+static void the_words_of_a_paint_are_in_their_place(void **state)
+{
+    const xosera *x = (xosera *)*state;
+    assert_words_paint(&in_colours, x);
+    assert_words_paint(&in_levels, x);
 }
 
 int layout_group(int *tests)

@@ -1,141 +1,19 @@
 /* A painted scanline: the call, held against an account of it pixel by pixel; lines and screens
- * painted through a handle; a picture as a file. */
-#define _POSIX_C_SOURCE 200809L /* mkdtemp, rmdir */
-#include <errno.h>
-#include <stdbool.h>
-#include <stddef.h>
-#include <stdlib.h>
-#include <unistd.h>
+ * painted through a handle. Each test is run in colours, then in levels. */
+#include "painting.h"
 
-/* malloc as xosera/paint.h sees it in this file: how many bytes it was asked for, and whether it
- * has them. */
-static size_t bytes_asked;
-static bool no_memory;
-
-static void *try_malloc(size_t size)
-{
-    bytes_asked = size;
-    return no_memory ? NULL : malloc(size);
-}
-
-#define malloc(size) try_malloc(size)
-#include "xosera/paint.h"
-#undef malloc
-
-#include "tests.h"
-
-enum { WIDTH = XOSERA_SCREEN_WIDTH, LINES = XOSERA_VISIBLE_LINES, SCREEN = XOSERA_SCREEN_PIXELS };
-enum { UNTOUCHED = 0xA5A5, ASIDE = 16 /* words that must stay, on each side of a line */ };
-enum { FOUR_BITS = 0x0050, EIGHT_BITS = 0x0060, BLANK = 0x0080 };
-
-/* What a line is painted by. */
-typedef struct shown {
-    uint16_t gfx_ctrl, disp_addr, line_len, left, right, vid_ctrl;
-} shown;
-
-static void show(xosera *x, shown by)
-{
-    xosera_video *const v = &x->state.video;
-    v->pa[XR_PA_GFX_CTRL - XR_PA_GFX_CTRL] = by.gfx_ctrl;
-    v->pa[XR_PA_DISP_ADDR - XR_PA_GFX_CTRL] = by.disp_addr;
-    v->pa[XR_PA_LINE_LEN - XR_PA_GFX_CTRL] = by.line_len;
-    v->vid_left = by.left;
-    v->vid_right = by.right;
-    v->vid_ctrl = by.vid_ctrl;
-}
-
-static shown shown_by(const xosera *x)
-{
-    const xosera_video *const v = &x->state.video;
-    return (shown){v->pa[0], v->pa[2], v->pa[3], v->vid_left, v->vid_right, v->vid_ctrl};
-}
-
-/* The test's own account, by the request's words. */
-
-static unsigned field(unsigned word, unsigned high, unsigned low)
-{
-    return word >> low & ((2u << (high - low)) - 1);
-}
-
-/* "Inside the window": the bits of a row are counted from the high end of its first word on. */
-static unsigned index_inside(const xosera *x, const shown *by, unsigned line, unsigned from_left)
-{
-    const unsigned h_repeat = field(by->gfx_ctrl, 3, 2) + 1;
-    const unsigned v_repeat = field(by->gfx_ctrl, 1, 0) + 1;
-    const unsigned bits = field(by->gfx_ctrl, 5, 4) == 1 ? 4 : 8;
-    const unsigned bit = from_left / h_repeat * bits;
-    const unsigned row = (by->disp_addr + line / v_repeat * by->line_len) % 65536;
-    const unsigned address = (row + bit / 16) % 65536;
-    const unsigned word = x->vram[address % x->vram_len];
-    const unsigned pixel = field(word, 15 - bit % 16, 16 - bits - bit % 16);
-    return bits == 4 ? field(by->gfx_ctrl, 15, 12) * 16 + pixel : pixel;
-}
-
-static uint16_t colour_at(const xosera *x, unsigned line, unsigned at)
-{
-    const shown by = shown_by(x);
-    unsigned index = field(by.vid_ctrl, 7, 0); /* the border */
-    if (field(by.gfx_ctrl, 7, 7) == 1) {
-        index ^= field(by.gfx_ctrl, 15, 8);
-    } else if (by.left <= at && at < by.right) {
-        index = index_inside(x, &by, line, at - by.left);
-    }
-    return x->xr[5120 + index];
-}
-
-/* "Blank clear and either not bitmap or another depth". */
-static bool no_bitmap(unsigned gfx_ctrl)
-{
-    const unsigned depth = field(gfx_ctrl, 5, 4);
-    return field(gfx_ctrl, 7, 7) == 0 && (field(gfx_ctrl, 6, 6) == 0 || (depth != 1 && depth != 2));
-}
-
-/* A line among words that must stay. */
-typedef struct strip {
-    uint16_t before[ASIDE], pixels[WIDTH], behind[ASIDE];
-} strip;
-
-static void clear_strip(strip *s)
-{
-    uint16_t *const words = (uint16_t *)s;
-    for (size_t i = 0; i < sizeof *s / sizeof *words; i++) {
-        words[i] = UNTOUCHED;
-    }
-}
-
-static void assert_stayed(const uint16_t *words, size_t n)
-{
-    for (size_t i = 0; i < n; i++) {
-        if (words[i] != UNTOUCHED) {
-            fail_msg("word %zu was touched: %04X", i, (unsigned)words[i]);
-        }
-    }
-}
-
-/* The call on the adapter's state and memories, which must stay, and the words on both sides of the
- * line too. */
-static xosera_refusal paint(const xosera *x, uint32_t line, size_t length, strip *s)
-{
-    xosera *const was = adapter_copy(x);
-    clear_strip(s);
-    const xosera_paint_answer a =
-        xosera_paint(&x->state, x->vram, x->vram_len, x->xr, x->xr_len, line, s->pixels, length);
-    assert_adapter_equal(x, was);
-    assert_stayed(s->before, ASIDE);
-    assert_stayed(s->behind, ASIDE);
-    adapter_free(was);
-    return (xosera_refusal)a.refusal;
-}
+static const painter *tested; /* in_colours or in_levels */
 
 /* Every pixel as the account has it. */
 static void assert_painted(const xosera *x, uint32_t line)
 {
     strip s;
-    assert_int_equal(paint(x, line, WIDTH, &s), XOSERA_DONE);
+    assert_int_equal(paint(tested, x, line, WIDTH, &s), XOSERA_DONE);
     for (unsigned i = 0; i < WIDTH; i++) {
-        if (s.pixels[i] != colour_at(x, line, i)) {
+        const uint16_t want = tested->shows(colour_at(x, line, i));
+        if (s.pixels[i] != want) {
             fail_msg("line %u, pixel %u: %04X, should be %04X", (unsigned)line, i,
-                     (unsigned)s.pixels[i], (unsigned)colour_at(x, line, i));
+                     (unsigned)s.pixels[i], (unsigned)want);
         }
     }
 }
@@ -143,7 +21,7 @@ static void assert_painted(const xosera *x, uint32_t line)
 static void assert_not_painted(const xosera *x, uint32_t line, size_t length, xosera_refusal want)
 {
     strip s;
-    assert_int_equal(paint(x, line, length, &s), want);
+    assert_int_equal(paint(tested, x, line, length, &s), want);
     assert_stayed(s.pixels, WIDTH);
 }
 
@@ -166,11 +44,11 @@ static void assert_row(const xosera *x, uint32_t line, unsigned from, const unsi
                        size_t n)
 {
     strip s;
-    assert_int_equal(paint(x, line, WIDTH, &s), XOSERA_DONE);
+    assert_int_equal(paint(tested, x, line, WIDTH, &s), XOSERA_DONE);
     for (size_t i = 0; i < n; i++) {
-        if (s.pixels[from + i] != 0x1000 + want[i]) {
-            fail_msg("line %u, pixel %u: index %X, should be %X", (unsigned)line,
-                     from + (unsigned)i, (unsigned)s.pixels[from + i] - 0x1000, want[i]);
+        if (s.pixels[from + i] != tested->shows((uint16_t)(0x1000 + want[i]))) {
+            fail_msg("line %u, pixel %u: %X, should be that of index %X", (unsigned)line,
+                     from + (unsigned)i, (unsigned)s.pixels[from + i], want[i]);
         }
     }
 }
@@ -242,19 +120,6 @@ static void a_row_wraps(void **state)
 
 /* Everything by the account. */
 
-/* Memories full of words of any kind. */
-static xosera *any_memories(size_t vram_len)
-{
-    xosera *x = adapter_new(vram_len);
-    for (size_t i = 0; i < vram_len; i++) {
-        x->vram[i] = random_word();
-    }
-    for (size_t i = 0; i < x->xr_len; i++) {
-        x->xr[i] = random_word();
-    }
-    return x;
-}
-
 static void both_depths_and_all_repeats(void **state)
 {
     static const uint32_t lines[] = {0, 1, 2, 3, 4, 5, 11, 12, 240, 478, 479};
@@ -308,9 +173,9 @@ static void without_a_window_all_is_border(void **state)
     for (size_t i = 0; i < sizeof windows / sizeof windows[0]; i++) {
         strip s;
         show(x, (shown){FOUR_BITS, 0x40, 4, windows[i][0], windows[i][1], 0x8099});
-        assert_int_equal(paint(x, 0, WIDTH, &s), XOSERA_DONE);
+        assert_int_equal(paint(tested, x, 0, WIDTH, &s), XOSERA_DONE);
         for (unsigned k = 0; k < WIDTH; k++) {
-            assert_int_equal(s.pixels[k], 0x1099);
+            assert_int_equal(s.pixels[k], tested->shows(0x1099));
         }
     }
 }
@@ -339,12 +204,13 @@ static void blank_is_one_colour(void **state)
     xosera *x = numbered(state);
     for (unsigned base = 0; base < 256; base++) {
         const unsigned border = base * 7 % 256, low = base * 5 % 128;
+        const uint16_t want = tested->shows((uint16_t)(0x1000 + (border ^ base)));
         strip s;
         show(x, (shown){(uint16_t)(base << 8 | BLANK | low), 0x40, 4, (uint16_t)(base % 3),
                         (uint16_t)(base * 5), (uint16_t)(0xA500 | border)});
-        assert_int_equal(paint(x, base, WIDTH, &s), XOSERA_DONE);
+        assert_int_equal(paint(tested, x, base, WIDTH, &s), XOSERA_DONE);
         for (unsigned i = 0; i < WIDTH; i++) {
-            assert_int_equal(s.pixels[i], 0x1000 + (border ^ base));
+            assert_int_equal(s.pixels[i], want);
         }
     }
 }
@@ -444,7 +310,7 @@ static void what_is_ignored(void **state)
     xosera *x = numbered(state);
     strip plain, other;
     show(x, (shown){0xC500 | FOUR_BITS | 5, 0x40, 4, 20, 600, 0x0077});
-    assert_int_equal(paint(x, 13, WIDTH, &plain), XOSERA_DONE);
+    assert_int_equal(paint(tested, x, 13, WIDTH, &plain), XOSERA_DONE);
     for (int round = 0; round < 64; round++) {
         const shown by = shown_by(x);
         x->state = round % 3 == 0   ? idle_state()
@@ -462,7 +328,7 @@ static void what_is_ignored(void **state)
                 x->xr[i] = random_word();
             }
         }
-        assert_int_equal(paint(x, 13, WIDTH, &other), XOSERA_DONE);
+        assert_int_equal(paint(tested, x, 13, WIDTH, &other), XOSERA_DONE);
         assert_memory_equal(&other, &plain, sizeof plain);
     }
 }
@@ -497,9 +363,9 @@ static void no_other_word_is_touched(void **state)
         uint16_t *const pixels = (uint16_t *)malloc(WIDTH * sizeof *pixels);
         assert_non_null(pixels);
         show(x, (shown){modes[i], 0xFFF0, 160, 0, 0xFFFF, 0xFF});
-        assert_int_equal(xosera_paint_line(x, 479, pixels, WIDTH).refusal, XOSERA_DONE);
+        assert_int_equal(tested->line(x, 479, pixels, WIDTH).refusal, XOSERA_DONE);
         for (unsigned k = 0; k < WIDTH; k++) {
-            assert_int_equal(pixels[k], colour_at(x, 479, k));
+            assert_int_equal(pixels[k], tested->shows(colour_at(x, 479, k)));
         }
         free(pixels);
     }
@@ -515,10 +381,7 @@ static whole screen;
 
 static void clear_screen(void)
 {
-    uint16_t *const words = (uint16_t *)&screen;
-    for (size_t i = 0; i < sizeof screen / sizeof *words; i++) {
-        words[i] = UNTOUCHED;
-    }
+    clear_words((uint16_t *)&screen, sizeof screen / sizeof(uint16_t));
 }
 
 static void a_line_is_painted_as_by_the_call(void **state)
@@ -527,9 +390,9 @@ static void a_line_is_painted_as_by_the_call(void **state)
     strip want, got;
     show(x, (shown){0x4200 | EIGHT_BITS | 6, 0xFFF0, 77, 33, 599, 0x99});
     for (uint32_t line = 0; line < LINES; line += 53) {
-        assert_int_equal(paint(x, line, WIDTH, &want), XOSERA_DONE);
-        clear_strip(&got);
-        assert_int_equal(xosera_paint_line(x, line, got.pixels, WIDTH).refusal, XOSERA_DONE);
+        assert_int_equal(paint(tested, x, line, WIDTH, &want), XOSERA_DONE);
+        clear_words((uint16_t *)&got, sizeof got / sizeof(uint16_t));
+        assert_int_equal(tested->line(x, line, got.pixels, WIDTH).refusal, XOSERA_DONE);
         assert_memory_equal(&got, &want, sizeof want);
     }
 }
@@ -543,13 +406,13 @@ static void a_screen_is_its_lines(void **state)
         show(x, (shown){modes[i], 0xFFF0, 77, 33, 599, 0x99});
         show(was, shown_by(x));
         clear_screen();
-        assert_int_equal(xosera_paint_screen(x, screen.pixels, SCREEN).refusal, XOSERA_DONE);
+        assert_int_equal(tested->screen(x, screen.pixels, SCREEN).refusal, XOSERA_DONE);
         assert_adapter_equal(x, was);
         assert_stayed(screen.before, ASIDE);
         assert_stayed(screen.behind, ASIDE);
         for (uint32_t line = 0; line < LINES; line++) {
             uint16_t want[WIDTH];
-            assert_int_equal(xosera_paint_line(x, line, want, WIDTH).refusal, XOSERA_DONE);
+            assert_int_equal(tested->line(x, line, want, WIDTH).refusal, XOSERA_DONE);
             assert_memory_equal(screen.pixels + line * WIDTH, want, sizeof want);
         }
         adapter_free(was);
@@ -570,9 +433,9 @@ static void the_adapter_stays_as_it_is(void **state)
     xosera *const was = adapter_copy(x);
     memcpy(handle, x, sizeof handle);
     for (unsigned i = 0; i < 50; i++) {
-        (void)xosera_paint_line(x, i, screen.pixels, WIDTH);
+        (void)tested->line(x, i, screen.pixels, WIDTH);
     }
-    (void)xosera_paint_screen(x, screen.pixels, SCREEN);
+    (void)tested->screen(x, screen.pixels, SCREEN);
     assert_memory_equal(x, handle, sizeof handle);
     assert_adapter_equal(x, was);
     adapter_free(was);
@@ -586,7 +449,7 @@ static void assert_kept(xosera *x, xosera_paint_answer a, int heard, unsigned li
     assert_int_equal(heard, want);
     assert_int_equal(x->refusals, 1);
     assert_int_equal(x->first_refused.why, want);
-    assert_int_equal(x->last_refused.call, XOSERA_CALL_PAINT);
+    assert_int_equal(x->last_refused.call, tested->call);
     assert_int_equal(x->last_refused.reg, line);
     assert_null(x->last_refused.file);
     assert_stayed((const uint16_t *)&screen, sizeof screen / sizeof(uint16_t));
@@ -599,7 +462,7 @@ static void assert_line_refused(xosera *x, uint64_t line, size_t count, xosera_r
     x->user = &heard;
     xosera_clear_refusals(x);
     clear_screen();
-    const xosera_paint_answer a = xosera_paint_line(x, line, screen.pixels, count);
+    const xosera_paint_answer a = tested->line(x, line, screen.pixels, count);
     assert_kept(x, a, heard, line < UINT32_MAX ? (unsigned)line : UINT32_MAX, want);
 }
 
@@ -610,7 +473,7 @@ static void assert_screen_refused(xosera *x, size_t count, xosera_refusal want)
     x->user = &heard;
     xosera_clear_refusals(x);
     clear_screen();
-    const xosera_paint_answer a = xosera_paint_screen(x, screen.pixels, count);
+    const xosera_paint_answer a = tested->screen(x, screen.pixels, count);
     assert_kept(x, a, heard, 0, want);
 }
 
@@ -674,26 +537,29 @@ static void no_pixels_at_all_are_refused(void **state)
     xosera *x = (xosera *)*state;
     x->on_refusal = NULL;
     show(x, (shown){FOUR_BITS, 0, 77, 33, 599, 0x99});
-    assert_int_equal(xosera_paint_line(x, 0, NULL, 0).refusal, XOSERA_PIXELS_LENGTH);
-    assert_int_equal(xosera_paint_screen(x, NULL, 0).refusal, XOSERA_PIXELS_LENGTH);
+    assert_int_equal(tested->line(x, 0, NULL, 0).refusal, XOSERA_PIXELS_LENGTH);
+    assert_int_equal(tested->screen(x, NULL, 0).refusal, XOSERA_PIXELS_LENGTH);
     assert_int_equal(x->refusals, 2);
+}
+
+/* The message of the last refusal: the line, the call's name, and then this. */
+static void assert_message(const xosera *x, unsigned line, const char *rest)
+{
+    char got[200], want[200];
+    snprintf(want, sizeof want, "line %u: %s refused, %s", line, tested->name, rest);
+    assert_string_equal(xosera_refusal_message(got, sizeof got, &x->last_refused), want);
 }
 
 static void each_refusal_has_its_message(void **state)
 {
     xosera *x = (xosera *)*state;
-    char text[200];
     assert_line_refused(x, 0, WIDTH, XOSERA_NO_BITMAP);
-    assert_string_equal(
-        xosera_refusal_message(text, sizeof text, &x->last_refused),
-        "line 0: paint refused, 11: playfield A is neither blank nor a bitmap of 4 or 8 bits");
+    assert_message(x, 0, "11: playfield A is neither blank nor a bitmap of 4 or 8 bits");
     x->state.video.pa[0] = FOUR_BITS;
     assert_line_refused(x, 480, WIDTH, XOSERA_NO_LINE);
-    assert_string_equal(xosera_refusal_message(text, sizeof text, &x->last_refused),
-                        "line 480: paint refused, 12: line over 479");
+    assert_message(x, 480, "12: line over 479");
     assert_screen_refused(x, 0, XOSERA_PIXELS_LENGTH);
-    assert_string_equal(xosera_refusal_message(text, sizeof text, &x->last_refused),
-                        "line 0: paint refused, 13: pixels are not 640 words a line");
+    assert_message(x, 0, "13: pixels are not 640 words a line");
 }
 
 static void a_hook_may_leave_a_paint(void **state)
@@ -705,7 +571,7 @@ static void a_hook_may_leave_a_paint(void **state)
     x->state.video.pa[0] = BLANK;
     const int why = setjmp(left);
     if (why == 0) {
-        (void)xosera_paint_line(x, 480, screen.pixels, WIDTH);
+        (void)tested->line(x, 480, screen.pixels, WIDTH);
         fail_msg("the statement after the refusal was reached");
     }
     assert_int_equal(why, XOSERA_NO_LINE);
@@ -728,7 +594,7 @@ static void assert_heard(const heard *h, unsigned calls, unsigned line, uint64_t
                          xosera_refusal refusal)
 {
     assert_int_equal(h->calls, calls);
-    assert_int_equal(h->last.call, XOSERA_CALL_PAINT);
+    assert_int_equal(h->last.call, tested->call);
     assert_int_equal(h->last.reg, line);
     assert_int_equal(h->last.n, n);
     assert_int_equal(h->last.count, count);
@@ -746,47 +612,49 @@ static void a_hook_is_told_of_a_paint(void **state)
     x->on_access = hear;
     x->user = &h;
     x->state.video.pa[0] = BLANK;
-    (void)xosera_paint_line(x, 17, screen.pixels, WIDTH);
+    (void)tested->line(x, 17, screen.pixels, WIDTH);
     assert_heard(&h, 1, 17, 1, 1, XOSERA_DONE);
-    (void)xosera_paint_line(x, 480, screen.pixels, WIDTH);
+    (void)tested->line(x, 480, screen.pixels, WIDTH);
     assert_heard(&h, 2, 480, 1, 0, XOSERA_NO_LINE);
-    (void)xosera_paint_screen(x, screen.pixels, SCREEN);
+    (void)tested->screen(x, screen.pixels, SCREEN);
     assert_heard(&h, 3, 0, LINES, LINES, XOSERA_DONE);
-    (void)xosera_paint_screen(x, screen.pixels, SCREEN - 1);
+    (void)tested->screen(x, screen.pixels, SCREEN - 1);
     assert_heard(&h, 4, 0, LINES, 0, XOSERA_PIXELS_LENGTH);
 }
 
 static void a_paint_is_traced(void **state)
 {
     xosera *x = (xosera *)*state;
-    char text[300];
+    char text[300], want[300];
     FILE *out = tmpfile();
     assert_non_null(out);
     x->on_refusal = NULL;
     x->state.video.pa[0] = BLANK;
     xosera_trace_to(x, out);
-    (void)xosera_paint_line(x, 17, screen.pixels, WIDTH);
-    (void)xosera_paint_line(x, UINT64_MAX, screen.pixels, WIDTH);
-    (void)xosera_paint_screen(x, screen.pixels, SCREEN);
-    (void)xosera_paint_screen(x, screen.pixels, 7);
+    (void)tested->line(x, 17, screen.pixels, WIDTH);
+    (void)tested->line(x, UINT64_MAX, screen.pixels, WIDTH);
+    (void)tested->screen(x, screen.pixels, SCREEN);
+    (void)tested->screen(x, screen.pixels, 7);
     xosera_trace_to(x, NULL);
     rewind(out);
     text[fread(text, 1, sizeof text - 1, out)] = '\0';
     fclose(out);
-    assert_string_equal(text, "paint: line 17\n"
-                              "paint: line 4294967295    refused, 12: line over 479\n"
-                              "paint: lines 0 to 479\n"
-                              "paint: lines 0 to 479    refused, 13: pixels are not 640 words a "
-                              "line\n");
+    snprintf(want, sizeof want,
+             "%s: line 17\n"
+             "%s: line 4294967295    refused, 12: line over 479\n"
+             "%s: lines 0 to 479\n"
+             "%s: lines 0 to 479    refused, 13: pixels are not 640 words a line\n",
+             tested->name, tested->name, tested->name, tested->name);
+    assert_string_equal(text, want);
 }
 
 /* Some paints, done and refused, or none. */
 static void some_paints(xosera *x, bool asked)
 {
     if (asked) {
-        (void)xosera_paint_line(x, 5, screen.pixels, WIDTH);
-        (void)xosera_paint_line(x, 480, screen.pixels, WIDTH);
-        (void)xosera_paint_screen(x, screen.pixels, SCREEN);
+        (void)tested->line(x, 5, screen.pixels, WIDTH);
+        (void)tested->line(x, 480, screen.pixels, WIDTH);
+        (void)tested->screen(x, screen.pixels, SCREEN);
     }
 }
 
@@ -826,144 +694,6 @@ static void a_recording_goes_on_as_if_nothing_was_painted(void **state)
     assert_string_equal(with, without);
 }
 
-/* Pictures. */
-
-static void a_colour_has_24_bits(void **state)
-{
-    (void)state;
-    for (uint32_t colour = 0; colour < 65536; colour++) {
-        const uint32_t red = colour / 256 % 16, green = colour / 16 % 16, blue = colour % 16;
-        assert_int_equal(xosera_rgb24((uint16_t)colour),
-                         red * 17 * 65536 + green * 17 * 256 + blue * 17);
-    }
-    assert_int_equal(xosera_rgb24(0xF48C), 0x4488CC);
-}
-
-/* A folder of the test's own, and a path in it. */
-typedef struct test_folder {
-    char folder[64], path[96];
-} test_folder;
-
-static int folder_setup(void **state)
-{
-    test_folder *t = (test_folder *)malloc(sizeof *t);
-    assert_non_null(t);
-    strcpy(t->folder, "/tmp/xosera-XXXXXX");
-    assert_non_null(mkdtemp(t->folder));
-    snprintf(t->path, sizeof t->path, "%s/screen.ppm", t->folder);
-    no_memory = false;
-    *state = t;
-    return 0;
-}
-
-/* Nothing is left but what the test took away. */
-static int folder_teardown(void **state)
-{
-    test_folder *t = (test_folder *)*state;
-    const int removed = rmdir(t->folder);
-    free(t);
-    return removed;
-}
-#define WITH_FOLDER(test) cmocka_unit_test_setup_teardown(test, folder_setup, folder_teardown)
-
-/* The file is these bytes and no more. */
-static void assert_file(const char *path, const void *bytes, size_t length)
-{
-    uint8_t *const got = (uint8_t *)malloc(length + 1);
-    FILE *const in = fopen(path, "rb");
-    assert_true(got != NULL && in != NULL);
-    assert_int_equal(fread(got, 1, length + 1, in), length);
-    assert_memory_equal(got, bytes, length);
-    fclose(in);
-    free(got);
-}
-
-static void a_picture_is_a_file(void **state)
-{
-    const test_folder *t = (test_folder *)*state;
-    static const uint16_t pixels[] = {0x0000, 0x0FFF, 0xF123, 0x0F00, 0x00F0, 0x000F};
-    static const uint8_t wide[] = "P6\n3 2\n255\n"
-                                  "\x00\x00\x00\xFF\xFF\xFF\x11\x22\x33"
-                                  "\xFF\x00\x00\x00\xFF\x00\x00\x00\xFF";
-    static const uint8_t tall[] = "P6\n1 4\n255\n"
-                                  "\x00\x00\x00\xFF\xFF\xFF\x11\x22\x33\xFF\x00\x00";
-    assert_true(xosera_write_ppm(t->path, pixels, 3, 2));
-    assert_file(t->path, wide, sizeof wide - 1);
-    assert_true(xosera_write_ppm(t->path, pixels, 1, 4)); /* over the old file */
-    assert_file(t->path, tall, sizeof tall - 1);
-    assert_int_equal(remove(t->path), 0);
-}
-
-static void a_screen_is_a_file(void **state)
-{
-    const test_folder *t = (test_folder *)*state;
-    enum { HEAD = 15, BYTES = HEAD + 3 * SCREEN };
-    uint8_t *const want = (uint8_t *)malloc(BYTES);
-    assert_non_null(want);
-    memcpy(want, "P6\n640 480\n255\n", HEAD);
-    for (size_t i = 0; i < SCREEN; i++) {
-        screen.pixels[i] = random_word();
-        for (unsigned part = 0; part < 3; part++) {
-            want[HEAD + 3 * i + part] =
-                (uint8_t)(field(screen.pixels[i], 11 - 4 * part, 8 - 4 * part) * 17);
-        }
-    }
-    errno = ERANGE; /* stays where nothing fails */
-    assert_true(xosera_write_ppm(t->path, screen.pixels, WIDTH, LINES));
-    assert_int_equal(errno, ERANGE);
-    assert_file(t->path, want, BYTES);
-    assert_int_equal(remove(t->path), 0);
-    free(want);
-}
-
-static void assert_not_written(const char *path, const uint16_t *pixels, size_t width, size_t lines,
-                               int error)
-{
-    errno = 0;
-    assert_false(xosera_write_ppm(path, pixels, width, lines));
-    assert_int_equal(errno, error);
-}
-
-/* No file is made, and an old one stays. */
-static void a_picture_that_is_none_is_not_written(void **state)
-{
-    const test_folder *t = (test_folder *)*state;
-    static const uint16_t pixel = 0x0ABC;
-    static const uint8_t old[] = "P6\n1 1\n255\n\xAA\xBB\xCC";
-    assert_not_written(t->path, &pixel, 0, 1, EINVAL);
-    assert_not_written(t->path, &pixel, 1, 0, EINVAL);
-    assert_not_written(t->path, NULL, 0, 0, EINVAL);
-    assert_int_equal(access(t->path, F_OK), -1);
-    assert_true(xosera_write_ppm(t->path, &pixel, 1, 1));
-    bytes_asked = 0;
-    assert_not_written(t->path, &pixel, 0, SIZE_MAX, EINVAL);
-    assert_not_written(t->path, &pixel, SIZE_MAX, 1, ENOMEM); /* in bytes more than there are */
-    assert_not_written(t->path, &pixel, 1, SIZE_MAX / 3, ENOMEM);
-    assert_not_written(t->path, &pixel, (size_t)PTRDIFF_MAX / 3, 1, ENOMEM);
-    assert_not_written(t->path, &pixel, (size_t)1 << 32, (size_t)1 << 32, ENOMEM);
-    assert_int_equal(bytes_asked, 0);
-    no_memory = true;
-    assert_not_written(t->path, &pixel, 1, 1, ENOMEM);
-    assert_file(t->path, old, sizeof old - 1);
-    assert_int_equal(remove(t->path), 0);
-}
-
-static void what_cannot_be_written_is_reported(void **state)
-{
-    const test_folder *t = (test_folder *)*state;
-    static const uint16_t pixel = 0x0ABC;
-    char path[128];
-    snprintf(path, sizeof path, "%s/folder/screen.ppm", t->folder);
-    assert_not_written(path, &pixel, 1, 1, ENOENT);
-    assert_not_written(t->folder, &pixel, 1, 1, EISDIR); /* the new file beside it is removed */
-    snprintf(path, sizeof path, "%s.new0", t->folder);
-    assert_int_equal(access(path, F_OK), -1);
-    assert_true(xosera_write_ppm(t->path, &pixel, 1, 1));
-    snprintf(path, sizeof path, "%s/screen.ppm", t->path);
-    assert_not_written(path, &pixel, 1, 1, ENOTDIR);
-    assert_int_equal(remove(t->path), 0);
-}
-
 int paint_group(int *tests)
 {
     const struct CMUnitTest list[] = {
@@ -996,11 +726,9 @@ int paint_group(int *tests)
         WITH_ADAPTER(a_hook_is_told_of_a_paint),
         WITH_ADAPTER(a_paint_is_traced),
         cmocka_unit_test(a_recording_goes_on_as_if_nothing_was_painted),
-        cmocka_unit_test(a_colour_has_24_bits),
-        WITH_FOLDER(a_picture_is_a_file),
-        WITH_FOLDER(a_screen_is_a_file),
-        WITH_FOLDER(a_picture_that_is_none_is_not_written),
-        WITH_FOLDER(what_cannot_be_written_is_reported),
     };
-    return RUN_GROUP("paint", list, tests);
+    tested = &in_colours;
+    const int failed = RUN_GROUP(tested->name, list, tests);
+    tested = &in_levels;
+    return failed + RUN_GROUP(tested->name, list, tests);
 }

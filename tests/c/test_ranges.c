@@ -148,6 +148,10 @@ static void assert_accepted(const xosera *x, const xosera_state *s)
         xosera_paint(&t, x->vram, x->vram_len, x->xr, x->xr_len, 479, pixels, XOSERA_SCREEN_WIDTH)
             .refusal,
         XOSERA_DONE);
+    assert_int_equal(xosera_paint_grey(&t, x->vram, x->vram_len, x->xr, x->xr_len, 479, pixels,
+                                       XOSERA_SCREEN_WIDTH)
+                         .refusal,
+                     XOSERA_DONE);
 }
 
 static void assert_out_of_range(const xosera *x, const xosera_state *s)

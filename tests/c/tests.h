@@ -86,6 +86,8 @@ int queue_group(int *tests);
 int masks_group(int *tests);
 int why_group(int *tests);
 int paint_group(int *tests);
+int grey_group(int *tests);
+int picture_group(int *tests);
 int order_group(int *tests);
 int layout_group(int *tests);
 int saved_group(int *tests);

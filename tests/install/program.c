@@ -14,7 +14,7 @@ int main(void)
     if (vram[0x1234] != 0xC0DE || vram_getw(0x1234) != 0xC0DE) {
         return 1;
     }
-    if (xosera_header_needs_library_1_2_0() != XOSERA_VERSION_NUMBER) {
+    if (xosera_header_needs_library_1_3_0() != XOSERA_VERSION_NUMBER) {
         return 2;
     }
     return adapter.refusals == 0 ? 0 : 3;

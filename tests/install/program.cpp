@@ -23,7 +23,7 @@ int main()
     if (std::count(vram.begin(), vram.end(), 0x7777) != 8) {
         return 1;
     }
-    if (xosera_header_needs_library_1_2_0() != XOSERA_VERSION_NUMBER) {
+    if (xosera_header_needs_library_1_3_0() != XOSERA_VERSION_NUMBER) {
         return 2;
     }
     return adapter.refusals == 0 ? 0 : 3;

@@ -22,13 +22,15 @@ ghost use Rattle.adapter.specs.Promises.{Does};
 ghost use Rattle.saved_file.specs.SaveLoad.{ofSave, ofLoad, Saves, Loads};
 ghost use Rattle.reasons.specs.WhyCall.{Explains};
 ghost use Rattle.scanline.specs.PaintCall.{Paints};
+ghost use Rattle.grey.specs.Grey.{greyLevel};
+ghost use Rattle.paint_grey.specs.GreyLine.{PaintsGrey};
 
-// The version, 1.2.0, of which each file that includes the C header asks by this name.
+// The version, 1.3.0, of which each file that includes the C header asks by this name.
 #[no_mangle]
-pub extern "C" fn xosera_header_needs_library_1_2_0() -> u32
-    ensures { λ r. ⌜ r ≡ 1002000 ⌝ }
+pub extern "C" fn xosera_header_needs_library_1_3_0() -> u32
+    ensures { λ r. ⌜ r ≡ 1003000 ⌝ }
 {
-    1002000
+    1003000
 }
 
 #[no_mangle]
@@ -192,4 +194,27 @@ pub extern "C" fn xosera_paint(
         ⌝ }
 {
     paint::paint(s, vram, xr, line, pixels)
+}
+
+#[no_mangle]
+pub extern "C" fn xosera_grey(colour: u16) -> u8
+    ensures { λ r. ⌜ r ≡ greyLevel colour ⌝ }
+{
+    grey::grey(colour)
+}
+
+#[no_mangle]
+pub extern "C" fn xosera_paint_grey(
+    s: &[u16; STATE_WORDS],
+    vram: &[u16],
+    xr: &[u16],
+    line: u32,
+    pixels: &mut [u16],
+) -> PaintAnswer
+    ensures { λ r. ⌜
+        PaintsGrey (adapterAt (now (s .entry)) (now (vram .entry)) (now (xr .entry))) line (now (pixels .entry)) (r .refusal)
+        (now (pixels .exit))
+        ⌝ }
+{
+    paint_grey::paint_grey(s, vram, xr, line, pixels)
 }
