@@ -5,6 +5,7 @@
 #   make boot        boot once and save the adapter, then load it instead
 #   make border      change the border in mid-frame by a copper list, and by one that waits for a wrong line
 #   make screen      paint the cross with its border, line by line as the beam goes, to build/screen.ppm
+#   make grey        the same in the sixteen levels of a monochrome tube, to build/screen.pgm
 #   make polling     wait in loops of the firmware's own, recorded, and play the recording
 #   make test-c      the C tests: each header alone; programs that must not compile; all tests plain, by clang, under
 #                    ASan and UBSan, under valgrind; the examples; the C of README.md and docs/; recordings
@@ -12,7 +13,8 @@
 #   make test-rust   the library against a plain Rust model, call by call;
 #                    XOSERA_CALLS=100000000 for a long run, XOSERA_SEED=n for the same calls again
 #   make test-install  install to a temporary folder and build against it: by flags, pkg-config, CMake
-#   make lint        formats, shellcheck, clippy, clang-tidy, and that all places state one version
+#   make lint        formats, shellcheck, clippy, clang-tidy, one version in all places, and that the table of levels
+#                    is what its script prints
 #   make bench       words and calls a second
 #   make install     header, library, pkg-config file, CMake package and documents to PREFIX, /usr/local
 #                    if not given, below DESTDIR if given; make uninstall removes them
@@ -47,7 +49,7 @@ TESTS_CPP := $(wildcard tests/c/*.cpp)
 TESTS_H   := $(HEADER) $(wildcard tests/c/*.h)
 OBJECTS    = $(TESTS_C:tests/c/%.c=build/$(1)/%.o) $(TESTS_CPP:tests/c/%.cpp=build/$(1)/%.o)
 
-.PHONY: all lib example boot border screen polling test test-c test-headers test-rust test-install lint bench
+.PHONY: all lib example boot border screen grey polling test test-c test-headers test-rust test-install lint bench
 .PHONY: install uninstall dist clean
 all: lib example
 
@@ -72,6 +74,9 @@ border: build/border
 
 screen: build/screen
 	build/screen build/screen.ppm
+
+grey: build/screen
+	build/screen --grey build/screen.pgm
 
 polling: build/polling build/replay
 	build/polling -r build/polling.txt
@@ -108,7 +113,9 @@ test-c: test-headers test-compile test-docs test-replay build/plain/tests build/
 	@echo "examples/border changes the border where its border.txt says"
 	@build/screen build/screen.ppm | diff examples/screen/screen.txt -
 	@pngtopam docs/screen.png | cmp - build/screen.ppm
-	@echo "examples/screen paints what its screen.txt says and docs/screen.png shows"
+	@build/screen --grey build/screen.pgm | diff examples/screen/grey.txt -
+	@pngtopam docs/screen_grey.png | cmp - build/screen.pgm
+	@echo "examples/screen paints what its screen.txt and grey.txt say and docs/screen.png and docs/screen_grey.png show"
 	@build/polling -r build/session.txt | diff examples/polling/polling.txt -
 	@printf 'examples/polling and replay: '
 	@$(call run_tests,build/replay build/session.txt,build/replay.log)
@@ -164,7 +171,7 @@ build build/plain build/clang build/sanitized build/packaging build/dist:
 test-rust: $(LIB) | build
 	@(cd tests/rust && cargo test --release -- --nocapture) >build/rust.log 2>&1 || \
 	    { cat build/rust.log; exit 1; }
-	@grep -e '^copper' -e '^masks' -e '^order' -e '^paint' -e '^random calls' -e '^recording' -e '^saved' -e '^why' -e '^  [a-zA-Z]' build/rust.log
+	@grep -e '^copper' -e '^grey' -e '^masks' -e '^order' -e '^paint' -e '^random calls' -e '^recording' -e '^saved' -e '^why' -e '^  [a-zA-Z]' build/rust.log
 	@awk '/^test result/ { n += $$4 } END { print "Rust tests: " n " passed, 0 failed" }' build/rust.log
 
 test-install: $(LIB)

@@ -2,7 +2,7 @@
  * The telescope's screen without a monitor: the cross on playfield A, in a border that a copper
  * list changes halfway down.
  *
- *   screen [FILE]
+ *   screen [--grey] [FILE]
  *
  * The field is 256 by 240 pixels of four bits, each shown as 2 by 2 pixels of the screen: it is 512
  * wide there and leaves 64 on each side to the border. (640 by 480 pixels of four bits would take
@@ -10,8 +10,10 @@
  * nibble masks cut at odd pixels. The screen is painted once as a whole, before the copper runs,
  * and then line by line as the beam comes to each. Printed are, of the second picture, the lines
  * with their border, the colours along some lines and how often each is seen; then where the first
- * one differs. The second one goes to FILE, as PPM. What is wrong with an argument is said on
- * stderr, with the usage, and the exit status is 2.
+ * one differs. The second one goes to FILE, as PPM. With --grey both are painted in the sixteen
+ * levels of a monochrome tube, FILE is a PGM, and the level of each colour is printed too: colours
+ * of one level look alike there. What is wrong with an argument is said on stderr, with the usage,
+ * and the exit status is 2.
  */
 #include <errno.h>
 #include <stdbool.h>
@@ -27,6 +29,16 @@ enum { LEFT = 64, RIGHT = LEFT + 2 * FIELD_W, HALFWAY = 240 };
 enum { UPPER = 0x01, LOWER = 0x04, BASE = 0x10 };
 enum { DARK = 0, CROSS = 1, MARK = 2 };
 
+/* What stands there, 0xRGB. */
+static const struct {
+    uint16_t index, colour;
+} colours[] = {{UPPER, 0x0246},
+               {LOWER, 0x0642},
+               {BASE + DARK, 0x0012},
+               {BASE + CROSS, 0x03E5},
+               {BASE + MARK, 0x0FA0}};
+enum { COLOURS = sizeof colours / sizeof colours[0] };
+
 /* The firmware, as it stands on the board. */
 
 static const uint32_t list[] = {COP_MOVER(UPPER, VID_CTRL), COP_WAIT_V(HALFWAY),
@@ -35,11 +47,9 @@ enum { INSTRUCTIONS = sizeof list / sizeof list[0] };
 
 static void load_colours(void)
 {
-    xmem_setw(XR_COLOR_A_ADDR + UPPER, 0x0246);
-    xmem_setw(XR_COLOR_A_ADDR + LOWER, 0x0642);
-    xmem_setw(XR_COLOR_A_ADDR + BASE + DARK, 0x0012);
-    xmem_setw(XR_COLOR_A_ADDR + BASE + CROSS, 0x03E5);
-    xmem_setw(XR_COLOR_A_ADDR + BASE + MARK, 0x0FA0);
+    for (int i = 0; i < COLOURS; i++) {
+        xmem_setw(XR_COLOR_A_ADDR + colours[i].index, colours[i].colour);
+    }
 }
 
 static void show_field(void)
@@ -101,6 +111,8 @@ static void start_list(void)
 
 /* The test. */
 
+static bool grey; /* in levels, not in colours */
+
 static uint16_t vram[XOSERA_VRAM_MAX], xr[XOSERA_XR_WORDS];
 
 /* The screen painted at once, and line by line as the beam goes. */
@@ -122,11 +134,28 @@ static void paint(void)
     show_field();
     draw_cross();
     xwait_blit_done();
-    (void)xosera_paint_screen(&adapter, at_once, XOSERA_SCREEN_PIXELS);
+    (void)(grey ? xosera_paint_grey_screen : xosera_paint_screen)(&adapter, at_once,
+                                                                  XOSERA_SCREEN_PIXELS);
     start_list();
     for (uint16_t line = 0; line < XOSERA_VISIBLE_LINES; line++) {
         (void)xosera_beam_to(&adapter, line, XOSERA_BLANK_POSITIONS);
-        (void)xosera_paint_line(&adapter, line, pixels_of(line), XOSERA_SCREEN_WIDTH);
+        (void)(grey ? xosera_paint_grey_line : xosera_paint_line)(&adapter, line, pixels_of(line),
+                                                                  XOSERA_SCREEN_WIDTH);
+    }
+}
+
+/* What a pixel is: a colour in three digits, or a level. */
+static void put_pixel(unsigned pixel)
+{
+    printf(grey ? "level %u" : "%03X", pixel);
+}
+
+/* The levels by which the colours are seen. */
+static void put_levels(void)
+{
+    for (int i = 0; i < COLOURS; i++) {
+        printf("colour %03X is level %u\n", (unsigned)colours[i].colour,
+               (unsigned)xosera_grey(colours[i].colour));
     }
 }
 
@@ -136,14 +165,15 @@ static void put_borders(void)
     int first = 0;
     for (int line = 1; line <= XOSERA_VISIBLE_LINES; line++) {
         if (line == XOSERA_VISIBLE_LINES || *pixels_of(line) != *pixels_of(first)) {
-            printf("border of lines %d to %d: %03X\n", first, line - 1,
-                   (unsigned)*pixels_of(first));
+            printf("border of lines %d to %d: ", first, line - 1);
+            put_pixel(*pixels_of(first));
+            putchar('\n');
             first = line;
         }
     }
 }
 
-/* The colours along a line: so many pixels of each. */
+/* The colours or levels along a line: so many pixels of each. */
 static void put_line(int line)
 {
     const uint16_t *const pixels = pixels_of(line);
@@ -151,23 +181,26 @@ static void put_line(int line)
     printf("line %3d:", line);
     for (int x = 1; x <= XOSERA_SCREEN_WIDTH; x++) {
         if (x == XOSERA_SCREEN_WIDTH || pixels[x] != pixels[first]) {
-            printf(" %d of %03X%s", x - first, (unsigned)pixels[first],
-                   x == XOSERA_SCREEN_WIDTH ? "\n" : ",");
+            printf(" %d of ", x - first);
+            put_pixel(pixels[first]);
+            putchar(x == XOSERA_SCREEN_WIDTH ? '\n' : ',');
             first = x;
         }
     }
 }
 
-/* How often each colour is seen. */
+/* How often each colour or level is seen. */
 static void put_counts(void)
 {
     static int count[0x1000];
     for (int i = 0; i < XOSERA_SCREEN_PIXELS; i++) {
         count[by_lines[i] & 0xFFF]++;
     }
-    for (int colour = 0; colour < 0x1000; colour++) {
-        if (count[colour] != 0) {
-            printf("%6d pixels of %03X\n", count[colour], (unsigned)colour);
+    for (unsigned pixel = 0; pixel < 0x1000; pixel++) {
+        if (count[pixel] != 0) {
+            printf("%6d pixels of ", count[pixel]);
+            put_pixel(pixel);
+            putchar('\n');
         }
     }
 }
@@ -184,38 +217,57 @@ static void put_difference(void)
             *(LEFT <= x && x < RIGHT ? &field : &border) += 1;
         }
     }
-    printf("painted at once, without the copper: lines %d to %d differ, in %d pixels of the border "
-           "and %d of the field\n",
-           first, last, border, field);
+    printf("painted at once, without the copper: ");
+    if (border + field == 0) {
+        printf("no pixel differs\n");
+    } else {
+        printf("lines %d to %d differ, in %d pixels of the border and %d of the field\n", first,
+               last, border, field);
+    }
 }
 
 static int complain(const char *what, const char *more, const char *why)
 {
-    fprintf(stderr, "screen: %s%s%s\nusage: screen [FILE]\n", what, more, why);
+    fprintf(stderr, "screen: %s%s%s\nusage: screen [--grey] [FILE]\n", what, more, why);
     return 2;
 }
 
-int main(int argc, char **argv)
+/* What is printed of the two pictures. */
+static void put_pictures(void)
 {
     static const int shown[] = {0, 100, 196, 239, 240};
-    if (argc > 1 && argv[1][0] == '-') {
-        return complain("there is no option ", argv[1], "");
-    }
-    if (argc > 2) {
-        return complain("there is an argument too many: ", argv[2], "");
-    }
-    paint();
     printf("playfield A: %d by %d pixels of 4 bits, shown 2 by 2 in pixels %d to %d of a line\n",
            FIELD_W, FIELD_H, LEFT, RIGHT - 1);
+    if (grey) {
+        put_levels();
+    }
     put_borders();
     for (size_t i = 0; i < sizeof shown / sizeof shown[0]; i++) {
         put_line(shown[i]);
     }
     put_counts();
     put_difference();
-    if (argc > 1 &&
-        !xosera_write_ppm(argv[1], by_lines, XOSERA_SCREEN_WIDTH, XOSERA_VISIBLE_LINES)) {
-        return complain(argv[1], " cannot be written: ", strerror(errno));
+}
+
+int main(int argc, char **argv)
+{
+    const char *file = NULL;
+    for (int i = 1; i < argc; i++) {
+        if (strcmp(argv[i], "--grey") == 0) {
+            grey = true;
+        } else if (argv[i][0] == '-') {
+            return complain("there is no option ", argv[i], "");
+        } else if (file != NULL) {
+            return complain("there is an argument too many: ", argv[i], "");
+        } else {
+            file = argv[i];
+        }
+    }
+    paint();
+    put_pictures();
+    if (file != NULL && !(grey ? xosera_write_pgm : xosera_write_ppm)(
+                            file, by_lines, XOSERA_SCREEN_WIDTH, XOSERA_VISIBLE_LINES)) {
+        return complain(file, " cannot be written: ", strerror(errno));
     }
     return 0;
 }

@@ -60,6 +60,12 @@ bad 'there is an argument too many: 240' border 240
 bad 'there is no option -q' screen -q
 bad 'there is an argument too many: more' screen arguments/x more
 bad 'arguments/no/x cannot be written: No such file or directory' screen arguments/no/x
+bad 'there is no option --gray' screen --gray
+bad 'there is no option -q' screen --grey -q
+bad 'there is no option --gre' screen arguments/x --gre
+bad 'there is an argument too many: more' screen --grey arguments/x more
+bad 'there is an argument too many: more' screen arguments/x --grey more
+bad 'arguments/no/x cannot be written: No such file or directory' screen --grey arguments/no/x
 bad 'not an argument: -q' polling -q
 bad 'FILE is missing after -r' polling -r
 bad 'arguments/no/x: cannot make the file: No such file or directory' polling -r arguments/no/x
@@ -69,4 +75,8 @@ bad 'FILE is missing' replay
 [ "$(sed -n 2p arguments/x.pbm)" = "48 11" ]
 ./screen arguments/x.ppm >/dev/null
 [ "$(head -n 2 arguments/x.ppm | tail -n 1)" = "640 480" ]
+./screen --grey arguments/x.pgm >/dev/null
+[ "$(head -n 3 arguments/x.pgm | tr '\n' ' ')" = "P5 640 480 15 " ]
+./screen arguments/y.pgm --grey >/dev/null
+cmp arguments/x.pgm arguments/y.pgm
 echo "examples: bad arguments are said in a sentence"
