@@ -10,6 +10,7 @@ use std::time::Instant;
 
 use compare::convert::{typed, words};
 use compare::copper::{instruction, position, ENABLED, JMP, MOVEC, MOVER, PROGRAM_AT, WAIT};
+use compare::tube::Tube;
 use xosera::{
     saved_bytes, BlitAnswer, BlitRegs, LineAnswer, LoadAnswer, PaintAnswer, ReadAnswer, SaveAnswer,
     StateAnswer, WhyAnswer, WriteAnswer, SCREEN_WIDTH, VISIBLE_LINES, XR_COLOUR_AT,
@@ -36,7 +37,19 @@ const FILE_WORDS: u64 = (xosera::SAVED_STATE_WORDS + xosera::XR_WORDS + VRAM_WOR
 /// The pixels of a screen.
 const SCREEN: usize = VISIBLE_LINES as usize * SCREEN_WIDTH;
 
-/// A side's eleven calls, on a state of type `S`.
+/// A call that paints a line, on a state of type `S`.
+type Painter<S> = unsafe extern "C" fn(
+    *const S,
+    *const u16,
+    usize,
+    *const u16,
+    usize,
+    u32,
+    *mut u16,
+    usize,
+) -> PaintAnswer;
+
+/// A side's thirteen calls, on a state of type `S`.
 #[derive(Clone, Copy)]
 struct Calls<S> {
     write_byte:
@@ -67,16 +80,9 @@ struct Calls<S> {
         usize,
     ) -> LoadAnswer,
     why: unsafe extern "C" fn(BlitRegs, *const u16, usize, *mut u16, usize, u32, u32) -> WhyAnswer,
-    paint: unsafe extern "C" fn(
-        *const S,
-        *const u16,
-        usize,
-        *const u16,
-        usize,
-        u32,
-        *mut u16,
-        usize,
-    ) -> PaintAnswer,
+    paint: Painter<S>,
+    grey: unsafe extern "C" fn(u16) -> u8,
+    paint_grey: Painter<S>,
 }
 
 const LIBRARY: Calls<xosera::State> = Calls {
@@ -91,6 +97,8 @@ const LIBRARY: Calls<xosera::State> = Calls {
     load: xosera::ffi::xosera_load,
     why: xosera::ffi::xosera_why,
     paint: xosera::ffi::xosera_paint,
+    grey: xosera::ffi::xosera_grey,
+    paint_grey: xosera::ffi::xosera_paint_grey,
 };
 
 const PLAIN: Calls<model::State> = Calls {
@@ -104,7 +112,9 @@ const PLAIN: Calls<model::State> = Calls {
     save: plain::save,
     load: plain::load,
     why: plain::why,
-    paint: plain::paint,
+    paint: plain::paint::<false>,
+    grey: plain::grey,
+    paint_grey: plain::paint::<true>,
 };
 
 /// The plain model's calls as C functions. Pointers and lengths are those of live memory, as for the
@@ -274,8 +284,14 @@ mod plain {
     }
 
     #[inline(never)]
+    pub unsafe extern "C" fn grey(colour: u16) -> u8 {
+        model::grey(colour)
+    }
+
+    /// A line in colours, or in levels of grey.
+    #[inline(never)]
     #[allow(clippy::too_many_arguments)]
-    pub unsafe extern "C" fn paint(
+    pub unsafe extern "C" fn paint<const GREY: bool>(
         s: *const State,
         vram: *const u16,
         vram_len: usize,
@@ -288,7 +304,10 @@ mod plain {
         let vram = from_raw_parts(vram, vram_len);
         let xr = from_raw_parts(xr, xr_len);
         let pixels = from_raw_parts_mut(pixels, pixels_len);
-        let (refusal, ()) = said((*s).paint(vram, xr, line, pixels));
+        let (refusal, ()) = said(match GREY {
+            false => (*s).paint(vram, xr, line, pixels),
+            true => (*s).paint_grey(vram, xr, line, pixels),
+        });
         PaintAnswer { refusal }
     }
 }
@@ -533,15 +552,19 @@ impl Work for Why {
 }
 
 /// A screen, line by line.
-struct Paint;
+struct Paint(Tube);
 
 impl Work for Paint {
     fn done_by<S>(&self, m: &mut Side<S>) -> u64 {
+        let paint = match self.0 {
+            Tube::Colour => m.calls.paint,
+            Tube::Grey => m.calls.paint_grey,
+        };
         let (v, vn, x, xn) = (m.vram.as_ptr(), m.vram.len(), m.xr.as_ptr(), m.xr.len());
         let mut refused = 0;
         for (line, pixels) in (0..).zip(m.screen.chunks_mut(SCREEN_WIDTH)) {
             let (p, pn) = (pixels.as_mut_ptr(), pixels.len());
-            let a = unsafe { (m.calls.paint)(&m.state, v, vn, x, xn, line, p, pn) };
+            let a = unsafe { paint(&m.state, v, vn, x, xn, line, p, pn) };
             refused += u64::from(a.refusal);
         }
         refused
@@ -549,6 +572,20 @@ impl Work for Paint {
 
     fn screen(&self) -> usize {
         SCREEN
+    }
+}
+
+/// The levels of colours one after another.
+struct Levels;
+
+impl Work for Levels {
+    fn done_by<S>(&self, m: &mut Side<S>) -> u64 {
+        let mut sum = 0;
+        for colour in 0..CALLS {
+            let level = unsafe { (m.calls.grey)(colour as u16) };
+            sum = mixed(sum, 0, level);
+        }
+        sum
     }
 }
 
@@ -708,27 +745,42 @@ fn bytes(x: &xosera::Adapter) {
     }
 }
 
-/// Painted lines: a screen of rows one after another in VRAM, by each of these `GFX_CTRL` and windows.
+/// A screen: its name, `GFX_CTRL`, `LINE_LEN` and window.
+type Screen = (&'static str, u16, u16, [u16; 2]);
+
+/// Painted lines, in colours and in levels, and levels by themselves.
 fn screens(x: xosera::Adapter) {
     let mut x = x;
     for (i, colour) in (0..).zip(&mut x.xr[XR_COLOUR_AT..][..256]) {
         *colour = (0x0101 * i) & 0x0FFF;
     }
     let whole = [0, SCREEN_WIDTH as u16];
-    let mut screens = Vec::new();
-    for (name, gfx, length, [left, right]) in [
-        ("four bits", 0x0050, 160, whole),
+    let four = ("four bits", 0x0050, 160, whole);
+    let eight = ("eight bits", 0x0060, 320, whole);
+    let all = [
+        four,
         ("four bits, twice as wide", 0x0055, 80, whole),
-        ("eight bits", 0x0060, 320, whole),
+        eight,
         ("eight bits, twice as wide", 0x0065, 160, whole),
         ("half of it border", 0x0050, 80, [160, 480]),
         ("blank", 0x0080, 160, whole),
-    ] {
+    ];
+    let colours = painting("painting", Tube::Colour, &mut x, &all);
+    let levels = painting("painting grey", Tube::Grey, &mut x, &[four, eight]);
+    compare("levels of single colours", "Mcalls/s", CALLS, &x, Levels);
+    println!("screens a second, library: {}", colours);
+    println!("grey screens a second, library: {}", levels);
+}
+
+/// Screens of rows one after another in VRAM, a row of the table for each. How many a second the library
+/// paints.
+fn painting(row: &str, tube: Tube, x: &mut xosera::Adapter, screens: &[Screen]) -> String {
+    let each = screens.iter().map(|&(name, gfx, length, [left, right])| {
         x.state.video.pa = [gfx, 0, 0, length, 0, 0, 0];
         (x.state.video.vid_left, x.state.video.vid_right) = (left, right);
-        let row = format!("painting, {}", name);
-        let rounds = compare(&row, "Mpixels/s", SCREEN as u64, &x, Paint);
-        screens.push(format!("{} {:.0}", name, rounds));
-    }
-    println!("screens a second, library: {}", screens.join("; "));
+        let row = format!("{}, {}", row, name);
+        let rounds = compare(&row, "Mpixels/s", SCREEN as u64, x, Paint(tube));
+        format!("{} {:.0}", name, rounds)
+    });
+    each.collect::<Vec<String>>().join("; ")
 }

@@ -1,12 +1,11 @@
-//! Painted lines (change request 6): the library's, with all that must stay; the model's, at once and
+//! Painted lines (change requests 6 and 7): the library's, with all that must stay; the model's, at once and
 //! pixel by pixel; and the situations that came up.
-
-use std::ptr::addr_of_mut;
 
 use model::{Depth, Pixel, Source};
 use xosera::{Adapter, Video, SCREEN_WIDTH, VISIBLE_LINES, XR_COLOUR_AT};
 
 use crate::convert::typed;
+use crate::tube::Tube;
 
 /// The registers of playfield A in their order.
 pub const GFX_CTRL: usize = 0;
@@ -27,40 +26,45 @@ pub fn paintable(gfx: u16) -> bool {
     gfx & BLANK != 0 || matches!(gfx & 0x70, FOUR_BITS | EIGHT_BITS)
 }
 
-/// Have the library paint a line in so many words. State, memories and what stands beside the pixels must
-/// stay, the pixels too if it is refused. The refusal, and the pixels after it.
-pub fn paint(x: &Adapter, line: u32, words: usize) -> (u8, Vec<u16>) {
+/// Have the library paint a line for this tube in so many words. State, memories and what stands beside the
+/// pixels must stay, the pixels too if it is refused. The refusal, and the pixels after it.
+pub fn paint(tube: Tube, x: &Adapter, line: u32, words: usize) -> (u8, Vec<u16>) {
     let mut lent = x.clone();
     let mut room = [&FENCE[..], &vec![UNPAINTED; words], &FENCE].concat();
-    let (s, pixels) = (addr_of_mut!(lent.state), room[FENCE.len()..].as_mut_ptr());
-    let (v, vn) = (lent.vram.as_mut_ptr(), lent.vram.len());
-    let (r, rn) = (lent.xr.as_mut_ptr(), lent.xr.len());
-    // SAFETY: as in the wrapper, but by pointers that may be written through: it would be seen.
-    let a = unsafe { xosera::ffi::xosera_paint(s, v, vn, r, rn, line, pixels, words) };
+    let pixels = &mut room[FENCE.len()..][..words];
+    let refusal = tube.on_library(&mut lent.state, &mut lent.vram, &mut lent.xr, line, pixels);
+    let pixels = pixels.to_vec();
     assert!(lent == *x, "state or memories changed");
     let whole = room.starts_with(&FENCE) && room.ends_with(&FENCE);
     assert!(whole, "a word beside the pixels changed");
-    let pixels = room[FENCE.len()..][..words].to_vec();
     let untouched = pixels.iter().all(|&pixel| pixel == UNPAINTED);
-    assert!(a.refusal == 0 || untouched, "refused, and pixels changed");
-    (a.refusal, pixels)
+    assert!(refusal == 0 || untouched, "refused, and pixels changed");
+    (refusal, pixels)
 }
 
-/// A line that can be painted, by the library. It must be the model's, and each pixel must have the colour
-/// of the index that it has by itself.
+/// A painted line, by the library alone.
+pub fn painted(tube: Tube, x: &Adapter, line: u32) -> Vec<u16> {
+    let (refusal, pixels) = paint(tube, x, line, SCREEN_WIDTH);
+    assert_eq!(refusal, 0, "{}", at(x, line));
+    pixels
+}
+
+/// A line that can be painted, by the library, for the cases' tube. It must be the model's, and each pixel
+/// must show the colour of the index that it has by itself.
 pub fn line(x: &Adapter, line: u32, cases: &mut Cases) -> Vec<u16> {
-    let (refusal, pixels) = paint(x, line, SCREEN_WIDTH);
+    let tube = cases.tube;
+    let pixels = painted(tube, x, line);
     let s = typed(x.state.words()).expect("a state in range");
     let mut plain = vec![UNPAINTED; SCREEN_WIDTH];
-    let answer = s.paint(&x.vram, &x.xr, line, &mut plain);
-    assert_eq!((refusal, answer), (0, Ok(())), "{}", at(x, line));
+    let answer = tube.on_model(&s, &x.vram, &x.xr, line, &mut plain);
+    assert_eq!(answer, Ok(()), "{}", at(x, line));
     let each: Vec<Pixel> = (0..SCREEN_WIDTH as u16)
         .map(|pixel| s.pixel(&x.vram, line, pixel))
         .collect();
     for (i, pixel) in each.iter().enumerate() {
-        let colour = x.xr[XR_COLOUR_AT + usize::from(pixel.index)];
+        let shown = tube.shows(x.xr[XR_COLOUR_AT + usize::from(pixel.index)]);
         let both = [pixels[i], plain[i]];
-        assert_eq!(both, [colour; 2], "pixel {}: {}", i, at(x, line));
+        assert_eq!(both, [shown; 2], "pixel {}: {}", i, at(x, line));
     }
     cases.count(x, line, &each);
     pixels
@@ -252,23 +256,24 @@ fn which(source: Source) -> usize {
 /// How often each situation came up, so that a run in which too little happened is seen.
 #[derive(Clone)]
 pub struct Cases {
+    tube: Tube,
     lines: u64,
     situations: [u64; LINES.len()],
     /// Pixels of each index, by where it comes from.
     indices: [[u64; 256]; SOURCES.len()],
 }
 
-impl Default for Cases {
-    fn default() -> Cases {
+impl Cases {
+    /// Those of no line yet, of lines for this tube.
+    pub fn of(tube: Tube) -> Cases {
         Cases {
+            tube,
             lines: 0,
             situations: [0; LINES.len()],
             indices: [[0; 256]; SOURCES.len()],
         }
     }
-}
 
-impl Cases {
     fn count(&mut self, x: &Adapter, line: u32, pixels: &[Pixel]) {
         let painted = Line {
             video: &x.state.video,
@@ -304,7 +309,8 @@ impl Cases {
 
     /// Says how many lines there were.
     pub fn say(&self, what: &str) {
-        println!("paint: {}: {} lines, each word equal", what, self.lines);
+        let (name, lines) = (self.tube.name(), self.lines);
+        println!("{}: {}: {} lines, each word equal", name, what, lines);
     }
 
     /// Says how often the situations came up. Each did, and each index of each source.
@@ -315,7 +321,8 @@ impl Cases {
         assert!(*least > 0, "{}: {:?}", what, numbers);
         assert_eq!(self.indices(), [256; 4], "{}: {:?}", what, SOURCES);
         println!(
-            "paint: {}: {} lines of {} kinds, each at least {} times ({}), with each index of {}; each word equal",
+            "{}: {}: {} lines of {} kinds, each at least {} times ({}), with each index of {}; each word equal",
+            self.tube.name(),
             what,
             self.lines,
             numbers.len(),

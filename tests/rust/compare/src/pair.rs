@@ -1,11 +1,11 @@
 //! One call to the library and to the plain Rust model, from the same state and memories.
 
 use std::fmt;
-use std::ptr::addr_of_mut;
 
 use crate::convert::{blit, differences, misfit, typed, words, Words};
 use crate::copper::{any_program, PROGRAM_AT};
 use crate::random::Random;
+use crate::tube::Tube;
 use crate::why::{numbered, unlike};
 
 /// A call with its arguments, or so many beam steps, at least one, one after another. A save, a load, the
@@ -68,6 +68,41 @@ impl Memory {
 
     fn room(&self) -> usize {
         self.words.len() - 2 * MARGIN
+    }
+}
+
+/// Pixels with a line on both sides that no call may touch.
+#[derive(Clone, PartialEq, Eq)]
+struct Pixels {
+    words: Vec<u16>,
+}
+
+impl Pixels {
+    const AROUND: usize = xosera::SCREEN_WIDTH;
+
+    /// So many of them, none like its neighbours.
+    fn untouched(words: usize) -> Pixels {
+        let all = 0..words + 2 * Pixels::AROUND;
+        Pixels {
+            words: all.map(|i| !(40503 * i) as u16).collect(),
+        }
+    }
+
+    fn lent(&mut self) -> &mut [u16] {
+        let end = self.words.len() - Pixels::AROUND;
+        &mut self.words[Pixels::AROUND..end]
+    }
+
+    /// The first word that the model's are not equal in.
+    fn difference(&self, model: &Pixels) -> Option<String> {
+        let mut both = (0..).zip(self.words.iter().zip(&model.words));
+        let (i, (library, model)) = both.find(|(_, (library, model))| library != model)?;
+        Some(format!(
+            "pixel {}: library {:04X}, model {:04X}",
+            i - Pixels::AROUND as i64,
+            library,
+            model
+        ))
     }
 }
 
@@ -321,57 +356,36 @@ impl Pair {
     /// agree, the pixels too, with the words around them. The answer.
     pub fn paint(
         &mut self,
+        tube: Tube,
         before: xosera::State,
         lent: Lent,
         line: u32,
         words: usize,
     ) -> Result<Said, Box<Mismatch>> {
-        let around = xosera::SCREEN_WIDTH;
-        let untouched: Vec<u16> = (0..words + 2 * around)
-            .map(|i| !(40503 * i) as u16)
-            .collect();
-        let (mut library_pixels, mut model_pixels) = (untouched.clone(), untouched.clone());
-        let inner = around..around + words;
+        let untouched = Pixels::untouched(words);
+        let (mut library, mut plain) = (untouched.clone(), untouched.clone());
         let mut fenced = Fenced::new(before);
         let vram = self.library_vram.lent(lent.vram);
         let xr = self.library_xr.lent(lent.xr);
-        let pixels = &mut library_pixels[inner.clone()];
-        // SAFETY: as in the wrapper, but by pointers that may be written through: it would be seen.
-        let a = unsafe {
-            xosera::ffi::xosera_paint(
-                addr_of_mut!(fenced.state),
-                vram.as_mut_ptr(),
-                vram.len(),
-                xr.as_mut_ptr(),
-                xr.len(),
-                line,
-                pixels.as_mut_ptr(),
-                pixels.len(),
-            )
-        };
-        let said = said(a.refusal, 0, 0);
+        let refusal = tube.on_library(&mut fenced.state, vram, xr, line, library.lent());
+        let said = said(refusal, 0, 0);
         let vram = self.model_vram.lent(lent.vram);
         let xr = self.model_xr.lent(lent.xr);
         let s = typed(before.words()).unwrap_or_else(misfit);
-        let answer = s.paint(vram, xr, line, &mut model_pixels[inner]);
+        let answer = tube.on_model(&s, vram, xr, line, plain.lent());
         let model = outcome(before.words(), &s, answer.map(|()| (0, 0)));
 
-        let what = self.difference(&fenced, said, model).or_else(|| {
-            match (0..untouched.len()).find(|&i| library_pixels[i] != model_pixels[i]) {
-                Some(i) => Some(format!(
-                    "pixel {}: library {:04X}, model {:04X}",
-                    i as i64 - around as i64,
-                    library_pixels[i],
-                    model_pixels[i]
-                )),
-                None if said.refusal == 0 || library_pixels == untouched => None,
-                None => Some("a refused call changed a pixel".to_string()),
+        let differs = self.difference(&fenced, said, model);
+        let what = differs.or_else(|| match library.difference(&plain) {
+            None if refusal != 0 && library != untouched => {
+                Some("a refused call changed a pixel".to_string())
             }
+            pixel => pixel,
         });
         match what {
             None => Ok(said),
             Some(what) => Err(Box::new(Mismatch {
-                call: format!("paint line {} in {} words", line, words),
+                call: format!("{}: line {} in {} words", tube.name(), line, words),
                 lent,
                 before,
                 what,

@@ -12,6 +12,7 @@ use compare::paint;
 use compare::pair::{Call, Lent, Mismatch, Pair, Said};
 use compare::random::Random;
 use compare::settings::{number, seed};
+use compare::tube::Tube;
 
 /// Calls between two fresh starts.
 const EPISODE: u64 = 1500;
@@ -22,14 +23,41 @@ const SAVED: u64 = 500;
 /// One call in so many asks why a nibble is as it is. Each goes over all of VRAM and of a second one.
 const WHY: u64 = 400;
 
-/// One call in so many paints a line.
-const PAINTED: u64 = 300;
+/// One call in so many paints a line, in colours or in levels.
+const PAINTED: u64 = 150;
+
+/// Lines by what they were painted from: four bits, eight bits, blank; and those refused with 1 to 3 and 11
+/// to 13.
+#[derive(Default)]
+struct Lines {
+    painted: [u64; 3],
+    refused: [u64; 6],
+}
+
+impl Lines {
+    fn count(&mut self, gfx: u16, refusal: u8) {
+        let (blank, eight) = (gfx & paint::BLANK != 0, gfx & 0x70 == paint::EIGHT_BITS);
+        match usize::from(refusal) {
+            0 if blank => self.painted[2] += 1,
+            0 => self.painted[usize::from(eight)] += 1,
+            low @ 1..=3 => self.refused[low - 1] += 1,
+            high => self.refused[high - 8] += 1,
+        }
+    }
+
+    fn print(&self, name: &str) {
+        println!(
+            "  {:<10} painted by four bits, eight bits, blank {:?}; refused with 1 to 3, 11 to 13 {:?}",
+            name, self.painted, self.refused
+        );
+    }
+}
 
 /// What happened, so that a run in which too little happened is seen.
 #[derive(Default)]
 struct Tally {
     calls: u64,
-    kinds: [u64; 12],
+    kinds: [u64; 13],
     refusals: [u64; 16],
     lengths: [u64; 9],
     edges: Vec<u64>,
@@ -81,9 +109,9 @@ struct Tally {
     unasked: [u64; 2],
     fates: [u64; 3],
     reasons: [u64; 3],
-    /// Painted lines by four bits, eight bits and blank; those refused with 1 to 3 and 11 to 13.
-    painted: [u64; 3],
-    unpainted: [u64; 6],
+    /// Lines in colours, and in levels.
+    painted: Lines,
+    grey: Lines,
 }
 
 impl Tally {
@@ -133,16 +161,6 @@ impl Tally {
         let reasons = [said.first_mask, said.last_mask, said.colour_test];
         for (n, applied) in self.reasons.iter_mut().zip(reasons) {
             *n += u64::from(applied);
-        }
-    }
-
-    fn count_paint(&mut self, gfx: u16, refusal: u8) {
-        let (blank, eight) = (gfx & paint::BLANK != 0, gfx & 0x70 == paint::EIGHT_BITS);
-        match usize::from(refusal) {
-            0 if blank => self.painted[2] += 1,
-            0 => self.painted[usize::from(eight)] += 1,
-            low @ 1..=3 => self.unpainted[low - 1] += 1,
-            high => self.unpainted[high - 8] += 1,
         }
     }
 
@@ -197,7 +215,7 @@ impl Tally {
     fn print(&self) {
         let names = [
             "reset", "write", "read", "step", "run", "tick", "beam", "line", "save", "load", "why",
-            "paint",
+            "paint", "grey",
         ];
         let kinds: Vec<String> = names
             .iter()
@@ -256,10 +274,8 @@ impl Tally {
             "  whys       never reached, held back, written {:?}; by first mask, last mask, colour test {:?}; refused with 1, 15 {:?}",
             self.fates, self.reasons, self.unasked
         );
-        println!(
-            "  lines      painted by four bits, eight bits, blank {:?}; refused with 1 to 3, 11 to 13 {:?}",
-            self.painted, self.unpainted
-        );
+        self.painted.print("lines");
+        self.grey.print("grey lines");
     }
 
     /// Everything that the papers speak of has happened.
@@ -279,8 +295,10 @@ impl Tally {
             &self.files[..],
             &loaded[..],
             &self.refusals[..14],
-            &self.painted[..],
-            &self.unpainted[..],
+            &self.painted.painted[..],
+            &self.painted.refused[..],
+            &self.grey.painted[..],
+            &self.grey.refused[..],
             &self.unasked[..],
             &self.fates[..],
             &self.reasons[..],
@@ -342,6 +360,7 @@ const SAVE: usize = 8;
 const LOAD: usize = 9;
 const ASKED_WHY: usize = 10;
 const PAINT: usize = 11;
+const PAINT_GREY: usize = 12;
 
 fn kind(call: Call) -> usize {
     match call {
@@ -538,7 +557,7 @@ fn ask_why(
     Ok(())
 }
 
-/// A line painted with other registers for playfield A. It leaves the adapter as it is.
+/// A line painted with other registers for playfield A, for either tube. It leaves the adapter as it is.
 fn paint_line(
     calls: &mut Calls,
     tally: &mut Tally,
@@ -554,10 +573,14 @@ fn paint_line(
     };
     let lent = calls.lend_wrong_in(20, vram, pair.room());
     let (line, words) = calls.scanline();
-    let said = pair.paint(before, lent, line, words)?;
-    tally.kinds[PAINT] += 1;
+    let (tube, kind, lines) = match calls.random().flip() {
+        true => (Tube::Colour, PAINT, &mut tally.painted),
+        false => (Tube::Grey, PAINT_GREY, &mut tally.grey),
+    };
+    let said = pair.paint(tube, before, lent, line, words)?;
+    tally.kinds[kind] += 1;
     tally.refusals[said.refusal as usize] += 1;
-    tally.count_paint(before.video.pa[paint::GFX_CTRL], said.refusal);
+    lines.count(before.video.pa[paint::GFX_CTRL], said.refusal);
     Ok(())
 }
 

@@ -6,6 +6,7 @@
 
 mod beam;
 mod blitter;
+mod grey;
 mod host;
 mod paint;
 mod saved;
@@ -14,6 +15,7 @@ mod why;
 mod xr;
 
 pub use blitter::{words_left, Blitted};
+pub use grey::{grey, level};
 pub use paint::{Depth, Pixel, Source};
 pub use state::{Blit, Refusal, State};
 pub use why::{why, Account, Fate, Reach, Reasons};
@@ -38,7 +40,7 @@ fn place(addr: u16, words: usize) -> usize {
 }
 
 /// Nibble `i` of a word, counted from the left: 0 is bits 15:12, 3 is bits 3:0.
-fn nibble(word: u16, i: u32) -> u16 {
+const fn nibble(word: u16, i: u32) -> u16 {
     word >> (12 - 4 * i) & 0xF
 }
 

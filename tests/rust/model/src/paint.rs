@@ -140,6 +140,7 @@ impl State {
     }
 
     /// Fill the pixels with the colours of a line.
+    #[inline] // into both calls that paint, each one function
     pub fn paint(
         &self,
         vram: &[u16],

@@ -209,8 +209,24 @@ impl Adapter {
 
     /// The line, in words of its own.
     pub fn painted(&self, line: u32) -> Result<Vec<u16>, Refusal> {
-        let mut pixels = vec![0; SCREEN_WIDTH];
-        self.paint(line, &mut pixels)?;
-        Ok(pixels)
+        filled(|pixels| self.paint(line, pixels))
     }
+
+    /// Fill 640 words with the levels of playfield A on a visible line.
+    pub fn paint_grey(&self, line: u32, pixels: &mut [u16]) -> Result<(), Refusal> {
+        let a = crate::paint_grey(&self.state, &self.vram, &self.xr, line, pixels);
+        done((), a.refusal)
+    }
+
+    /// The grey line, in words of its own.
+    pub fn painted_grey(&self, line: u32) -> Result<Vec<u16>, Refusal> {
+        filled(|pixels| self.paint_grey(line, pixels))
+    }
+}
+
+/// A line of 640 words that the call has filled.
+fn filled(call: impl FnOnce(&mut [u16]) -> Result<(), Refusal>) -> Result<Vec<u16>, Refusal> {
+    let mut pixels = vec![0; SCREEN_WIDTH];
+    call(&mut pixels)?;
+    Ok(pixels)
 }

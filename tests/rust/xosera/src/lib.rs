@@ -1,6 +1,6 @@
 //! Safe Rust calls to `libxosera.a`, the model of the Xosera video adapter.
 //!
-//! The functions at the top level are the library's own twelve calls, with the state and the memories
+//! The functions at the top level are the library's own fourteen calls, with the state and the memories
 //! lent by reference.
 //! [`Adapter`] owns a state and both memories and answers with `Result`.
 //!
@@ -107,6 +107,17 @@ pub mod ffi {
             pixels: *mut u16,
             pixels_len: usize,
         ) -> PaintAnswer;
+        pub fn xosera_grey(colour: u16) -> u8;
+        pub fn xosera_paint_grey(
+            s: *const State,
+            vram: *const u16,
+            vram_len: usize,
+            xr: *const u16,
+            xr_len: usize,
+            line: u32,
+            pixels: *mut u16,
+            pixels_len: usize,
+        ) -> PaintAnswer;
     }
 }
 
@@ -194,4 +205,21 @@ pub fn why(
 pub fn paint(s: &State, vram: &[u16], xr: &[u16], line: u32, pixels: &mut [u16]) -> PaintAnswer {
     let (v, vn, x, xn) = (vram.as_ptr(), vram.len(), xr.as_ptr(), xr.len());
     unsafe { ffi::xosera_paint(s, v, vn, x, xn, line, pixels.as_mut_ptr(), pixels.len()) }
+}
+
+/// The level, 0 to 15, of a colour 0xRGB on a monochrome tube. Bits 15:12 are ignored.
+pub fn grey(colour: u16) -> u8 {
+    unsafe { ffi::xosera_grey(colour) }
+}
+
+/// The same as [`paint`], with the level of each colour in its place.
+pub fn paint_grey(
+    s: &State,
+    vram: &[u16],
+    xr: &[u16],
+    line: u32,
+    pixels: &mut [u16],
+) -> PaintAnswer {
+    let (v, vn, x, xn) = (vram.as_ptr(), vram.len(), xr.as_ptr(), xr.len());
+    unsafe { ffi::xosera_paint_grey(s, v, vn, x, xn, line, pixels.as_mut_ptr(), pixels.len()) }
 }

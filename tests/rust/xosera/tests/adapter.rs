@@ -1,4 +1,5 @@
-//! The owning adapter: words, the XR space, blits, saved files, painted lines, and refusals as errors.
+//! The owning adapter: words, the XR space, blits, saved files, painted lines, grey ones too, and refusals
+//! as errors.
 
 use xosera::{saved_bytes, Adapter, Blitted, Fate, Refusal};
 use xosera::{XM_DATA, XM_DATA_2, XM_INT_CTRL, XM_RD_ADDR, XM_SYS_CTRL, XM_WR_ADDR, XM_WR_INCR};
@@ -151,6 +152,38 @@ fn other_lines_are_refused() {
     assert_eq!(length, "refusal 13: pixels are not 640 words");
 }
 
+/// 299 x 3 + 587 x 2 + 114 x 4 + 500 is 3,027; bits 15:12 are ignored.
+#[test]
+fn a_colour_has_a_level() {
+    assert_eq!([0x000, 0x324, 0xFFF].map(xosera::grey), [0, 3, 15]);
+    assert_eq!([0xF000, 0x8324, 0x1FFF].map(xosera::grey), [0, 3, 15]);
+}
+
+/// Two pixels of eight bits in a border; a refused call leaves the words.
+#[test]
+fn a_line_is_painted_grey() {
+    let mut x = Adapter::new(256);
+    let mut pixels = [0x5A5A; 641];
+    assert_eq!(x.paint_grey(0, &mut pixels[..640]), Err(Refusal(11)));
+    for (xaddr, word) in [
+        (0x05, 2),
+        (0x10, 0x0060),
+        (0x8000, 0x10F0),
+        (0x8001, 0xFF00),
+    ] {
+        x.write_xr(xaddr, word).unwrap();
+    }
+    x.vram[0] = 0x0100;
+    assert_eq!(x.paint_grey(480, &mut pixels[..640]), Err(Refusal(12)));
+    assert_eq!(x.paint_grey(479, &mut pixels), Err(Refusal(13)));
+    assert_eq!(pixels, [0x5A5A; 641]);
+    assert_eq!(x.paint_grey(479, &mut pixels[..640]), Ok(()));
+    let mut levels = vec![9; 640];
+    levels[0] = 4;
+    assert_eq!(pixels[..640], levels);
+    assert_eq!((x.painted_grey(0), pixels[640]), (Ok(levels), 0x5A5A));
+}
+
 #[test]
 fn time_raises_the_line() {
     let mut x = Adapter::new(256);
@@ -234,6 +267,8 @@ fn a_refusal_is_an_error_and_changes_nothing() {
     assert_eq!(Refusal(15).to_string(), no_place);
     assert_eq!(Adapter::new(300).painted(480), Err(Refusal(1)));
     assert_eq!(x.painted(480), Err(Refusal(11)));
+    assert_eq!(Adapter::new(300).painted_grey(480), Err(Refusal(1)));
+    assert_eq!(x.painted_grey(480), Err(Refusal(11)));
     x.state.status = 128;
     assert_eq!(x.interrupt_line(), Err(Refusal(3)));
     assert_eq!(x.timer_tick(), Err(Refusal(3)));

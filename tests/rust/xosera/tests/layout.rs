@@ -127,6 +127,7 @@ fn words_out_of_range_are_refused() {
         assert_eq!(x.saved(), Err(xosera::Refusal(3)));
         assert_eq!(x.load(&file), Err(xosera::Refusal(3)));
         assert_eq!(x.painted(0), Err(xosera::Refusal(3)));
+        assert_eq!(x.painted_grey(0), Err(xosera::Refusal(3)));
         assert_eq!(x, before);
     }
 }
