@@ -1,17 +1,17 @@
 // The host's calls on an adapter: reset, a byte written or read, and the line question. Each is lent the words of the state and the
 // memories, works in place or gives the one refusal that applies and changes nothing.
 ghost use Rattle.std.specs.Prelude.{◌≡◌, List, ℕ};
-ghost use Rattle.xosera.specs.State.{stateAt};
-ghost use Rattle.xosera.specs.Adapter.{adapterAt};
-ghost use Rattle.xosera.specs.Events.{write, read, line, call, Untouched, ofWrite, ofRead, ofLine};
-ghost use Rattle.xosera.specs.Ranges.{resetState};
+ghost use Rattle.xosera.specs.State.{state_at};
+ghost use Rattle.xosera.specs.Adapter.{adapter_at};
+ghost use Rattle.xosera.specs.Events.{write, read, line, call, Untouched, of_write, of_read, of_line};
+ghost use Rattle.xosera.specs.Ranges.{reset_state};
 ghost use Rattle.calls.specs.Promises.{Does};
 
 use xosera::{LineAnswer, NIBBLES, ReadAnswer, STATE_WORDS, VID_RIGHT, WriteAnswer};
 
 // The state after reset, whatever the words were. It refuses nothing and takes no memory.
 pub fn reset(s: &mut [u16; STATE_WORDS])
-    ensures { stateAt s.new ≡ resetState }
+    ensures { state_at s.new ≡ reset_state }
 {
     *s = [0; STATE_WORDS];
     s[NIBBLES] = 15;
@@ -27,9 +27,9 @@ pub fn write_byte(
     odd: bool,
     byte: u8,
 ) -> WriteAnswer
-    ensures done { Does (adapterAt s.old vram.old xr.old) (call (write reg odd byte)) (ofWrite result)
-        (adapterAt s.new vram.new xr.new) }
-    ensures refused { Untouched (ofWrite result) s.old s.new }
+    ensures done { Does (adapter_at s.old vram.old xr.old) (call (write reg odd byte)) (of_write result)
+        (adapter_at s.new vram.new xr.new) }
+    ensures refused { Untouched (of_write result) s.old s.new }
 {
     let refusal = refusals::write_refusal(s, vram.len(), xr.len(), reg, odd, byte);
     if refusal != 0 {
@@ -47,9 +47,9 @@ pub fn read_byte(
     reg: u8,
     odd: bool,
 ) -> ReadAnswer
-    ensures done { Does (adapterAt s.old vram.now xr.now) (call (read reg odd)) (ofRead result)
-        (adapterAt s.new vram.now xr.now) }
-    ensures refused { Untouched (ofRead result) s.old s.new }
+    ensures done { Does (adapter_at s.old vram.now xr.now) (call (read reg odd)) (of_read result)
+        (adapter_at s.new vram.now xr.now) }
+    ensures refused { Untouched (of_read result) s.old s.new }
 {
     let beam = ranges::beam_in_range(s);
     let registers = ranges::registers_in_range(s);
@@ -64,7 +64,7 @@ pub fn read_byte(
 
 // Whether the interrupt line is up. It changes nothing.
 pub fn interrupt_line(s: &[u16; STATE_WORDS]) -> LineAnswer
-    ensures { (v x : List ℕ) → Does (adapterAt s.now v x) (call line) (ofLine result) (adapterAt s.now v x) }
+    ensures { (v x : List ℕ) → Does (adapter_at s.now v x) (call line) (of_line result) (adapter_at s.now v x) }
 {
     let registers = ranges::registers_in_range(s);
     let beam = ranges::beam_in_range(s);

@@ -1,12 +1,12 @@
 // The video beam on the words of the state: one pixel on, and the positions that copper instructions ask for.
 ghost use Rattle.std.specs.Prelude.{◌≡◌, true, List, ℕ, ◌+◌, leb, length};
-ghost use Rattle.xosera.specs.State.{stateWords, stateAt};
-ghost use Rattle.xosera.specs.Fields.{waitLine, waitPixel};
+ghost use Rattle.xosera.specs.State.{state_words, state_at};
+ghost use Rattle.xosera.specs.Fields.{wait_line, wait_pixel};
 ghost use Rattle.xosera.specs.Beam.{frame};
 ghost use Rattle.xosera.specs.Plan.{Performs};
-ghost use Rattle.xosera.specs.Copper.{placeReached, positionReached};
-ghost use Rattle.xosera.specs.Ranges.{beamInRange};
-ghost use Rattle.beam.specs.Arrival.{arrival, lineArrival};
+ghost use Rattle.xosera.specs.Copper.{place_reached, position_reached};
+ghost use Rattle.xosera.specs.Ranges.{beam_in_range};
+ghost use Rattle.beam.specs.Arrival.{arrival, line_arrival};
 
 use xosera::{
     BEAM_LINE, BEAM_POSITION, COPP_CTRL, COPPER_RUNNING, COPPER_WORD, FRAME_BLANK, FRAME_ENDED,
@@ -15,9 +15,9 @@ use xosera::{
 
 // The next line at its first position: line 0 sets an enabled copper running at word 0, line 480 is the frame end.
 fn next_line(s: &mut [u16])
-    requires s_len { length s.old ≡ stateWords }
-    requires s_value { beamInRange frame (stateAt s.old).beam ≡ true }
-    ensures { (v x : List ℕ) → Performs lineArrival s.old v x s.new v x }
+    requires s_len { length s.old ≡ state_words }
+    requires s_value { beam_in_range frame (state_at s.old).beam ≡ true }
+    ensures { (v x : List ℕ) → Performs line_arrival s.old v x s.new v x }
 {
     let line = s[BEAM_LINE] + 1;
     let status = s[STATUS];
@@ -39,8 +39,8 @@ fn next_line(s: &mut [u16])
 
 // One pixel on.
 pub fn arrive(s: &mut [u16])
-    requires s_len { length s.old ≡ stateWords }
-    requires s_value { beamInRange frame (stateAt s.old).beam ≡ true }
+    requires s_len { length s.old ≡ state_words }
+    requires s_value { beam_in_range frame (state_at s.old).beam ≡ true }
     ensures { (v x : List ℕ) → Performs arrival s.old v x s.new v x }
 {
     let position = s[BEAM_POSITION] + 1;
@@ -53,15 +53,15 @@ pub fn arrive(s: &mut [u16])
 
 // Whether the beam's pixel is at least X of an instruction's second word.
 fn pixel_reached(position: u16, second: u16) -> bool
-    ensures { result ≡ leb (160 + waitPixel second) position }
+    ensures { result ≡ leb (160 + wait_pixel second) position }
 {
     FRAME_BLANK + fields::wait_pixel(second) <= position
 }
 
 // Whether the beam has reached line Y and pixel X of an instruction's two words.
 fn place_reached(s: &[u16], first: u16, second: u16) -> bool
-    requires { length s.now ≡ stateWords }
-    ensures { result ≡ placeReached frame (stateAt s.now).beam (waitLine first) (waitPixel second) }
+    requires { length s.now ≡ state_words }
+    ensures { result ≡ place_reached frame (state_at s.now).beam (wait_line first) (wait_pixel second) }
 {
     let line = s[BEAM_LINE];
     let y = fields::wait_line(first);
@@ -73,8 +73,8 @@ fn place_reached(s: &[u16], first: u16, second: u16) -> bool
 
 // Whether the position of a WAIT or SKIP is reached; `both` is the answer where it ignores both axes.
 pub fn position_reached(s: &[u16], both: bool, first: u16, second: u16) -> bool
-    requires { length s.now ≡ stateWords }
-    ensures { result ≡ positionReached both frame (stateAt s.now).beam first second }
+    requires { length s.now ≡ state_words }
+    ensures { result ≡ position_reached both frame (state_at s.now).beam first second }
 {
     let ignores_pixel = fields::ignores_pixel(second);
     if fields::ignores_line(second) {

@@ -6,20 +6,20 @@ use Rattle.bench_rows.specs.BenchTable.{BenchTable}
 pub bench-table : BenchTable
 unfolding computing-calls
 bench-table = record {
-  shiftedCopy = refl;
-  constantResult = refl;
-  colourNibbles = refl;
-  colourBytes = refl;
-  oneWordLine = refl;
-  constantMods = refl;
-  overlappingCopy = refl;
-  nibbleMask = refl;
-  bufferedRead = refl;
-  addressWraps = refl;
-  timerByte = refl;
-  countdownOfTwo = refl;
-  linesMod32768 = refl;
-  queuedRun = refl;
-  fullBlitter = refl;
-  shiftedLines = refl;
+  shifted_copy = refl;
+  constant_result = refl;
+  colour_nibbles = refl;
+  colour_bytes = refl;
+  one_word_line = refl;
+  constant_mods = refl;
+  overlapping_copy = refl;
+  nibble_mask = refl;
+  buffered_read = refl;
+  address_wraps = refl;
+  timer_byte = refl;
+  countdown_of_two = refl;
+  lines_mod32768 = refl;
+  queued_run = refl;
+  full_blitter = refl;
+  shifted_lines = refl;
 }

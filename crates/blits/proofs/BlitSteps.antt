@@ -9,7 +9,7 @@ use Rattle.xosera.specs.declared.BlitRegs.{BlitRegs}
 use Rattle.xosera.specs.declared.Engine.{Engine}
 use Rattle.xosera.specs.State.{is_set}
 use Rattle.xosera.specs.Adapter.{Adapter}
-use Rattle.xosera.specs.Blitter.{launched, fetched, drawn, lastStep, next, moved, steps, blitWords, engineLeft}
+use Rattle.xosera.specs.Blitter.{launched, fetched, drawn, last_step, next, moved, steps, blit_words, engine_left}
 use Rattle.xosera.specs.Ranges.{Running}
 use Rattle.xosera.proofs.Branches.{not-passed}
 use Rattle.xosera.proofs.Quotients.{quotient}
@@ -21,18 +21,18 @@ use Rattle.blits.specs.Blits.{Inside, step_of}
 -- Before step k of the blit of registers r: it runs, k of its words are done, and those registers are copied.
 pub record UnderWay (r : BlitRegs) (k : ℕ) (e : Engine) : Type 0 where
   pub runs : Running e
-  pub left : k + engineLeft e ≡ blitWords r
+  pub left : k + engine_left e ≡ blit_words r
   pub lines : e.regs.lines ≡ r.lines % 32768
   pub words : e.regs.words ≡ r.words
   pub andc : e.regs.andc ≡ r.andc
   pub xor : e.regs.xor ≡ r.xor
 
 -- With a word left behind it, a step does not end the blit.
-pub not_last : {r : BlitRegs} {k : ℕ} {e : Engine} → UnderWay r k e → suc k < blitWords r → lastStep e ≡ false
-not_last {r} {k} {e} u h = not-passed (lastStep e) (λ l. absurd (omega (arith, u.left, last-left e u.runs l)))
+pub not_last : {r : BlitRegs} {k : ℕ} {e : Engine} → UnderWay r k e → suc k < blit_words r → last_step e ≡ false
+not_last {r} {k} {e} u h = not-passed (last_step e) (λ l. absurd (omega (arith, u.left, last-left e u.runs l)))
 
 module _ (r : BlitRegs) where
-  next-under-way : (k : ℕ) (e : Engine) (w : ℕ) → UnderWay r k e → suc k < blitWords r → UnderWay r (suc k) (next e w)
+  next-under-way : (k : ℕ) (e : Engine) (w : ℕ) → UnderWay r k e → suc k < blit_words r → UnderWay r (suc k) (next e w)
   unfolding next
   next-under-way k e w u h = record {
     runs = next-running e w u.runs (not_last u h);
@@ -67,14 +67,14 @@ module _ (r : BlitRegs) where
       pub vram : (this k).vram ≡ (other k).vram
       pub under-way : UnderWay r k (other k).engine
 
-    pub alike : (k : ℕ) → k < blitWords r → Alike k
+    pub alike : (k : ℕ) → k < blit_words r → Alike k
     unfolding steps
     alike zero h = record { engine = refl; vram = refl; under-way = launched-under-way }
     alike (suc k) h =
         let so_far = alike k (omega arith) in
         let on = stepped-on (other k) so_far.under-way.runs.runs (not_last so_far.under-way h) in
         let on' = stepped-on (this k) (ap (λ (e : Engine). is_set e.running) so_far.engine ∙ so_far.under-way.runs.runs)
-        (ap lastStep so_far.engine ∙ not_last so_far.under-way h) in
+        (ap last_step so_far.engine ∙ not_last so_far.under-way h) in
         let here = steps-last k (moved b (launched r) v) ∙ on in
         let there = steps-last k (moved a (launched r) v) ∙ on' in
         record {
@@ -86,7 +86,7 @@ module _ (r : BlitRegs) where
         }
 
     -- The memory is the same after the last word too.
-    pub same-vram : (k : ℕ) → k < blitWords r → (this (suc k)).vram ≡ (other (suc k)).vram
+    pub same-vram : (k : ℕ) → k < blit_words r → (this (suc k)).vram ≡ (other (suc k)).vram
     same-vram k h =
         let so_far = alike k h in
         let on = so_far.under-way.runs.runs in
@@ -96,7 +96,7 @@ module _ (r : BlitRegs) where
         ∙ sym (ap (λ (s : Adapter). s.vram) (steps-last k (moved b (launched r) v)))
 
 -- A blit has a word.
-pub some_words : (r : BlitRegs) → 0 < blitWords r
+pub some_words : (r : BlitRegs) → 0 < blit_words r
 some_words r = omega (arith, launched-left r, running-left (launched r) (launched-running r))
 
 -- Lines and words count the steps.
@@ -106,7 +106,7 @@ rest-of-lines n l w h =
     sym (add-mul (n - l) l w) ∙ ap (λ (m : ℕ). m * w) whole
 
 pub counted : {r : BlitRegs} {k : ℕ} {e : Engine} → UnderWay r k e → step_of r e.line e.word ≡ k
-unfolding blitWords
+unfolding blit_words
 counted {r} {k} {e} u =
     let f = u.runs in
     let left = rw (left-counts e f, ← u.lines, ← u.words) at u.left in
@@ -116,8 +116,8 @@ pub under-way-inside : {r : BlitRegs} {k : ℕ} {e : Engine} → UnderWay r k e 
 under-way-inside {r} {k} {e} u =
     record { line = subst (λ (n : ℕ). e.line ≤ n) u.lines u.runs.line-within; word = subst (λ (n : ℕ). e.word ≤ n) u.words u.runs.word-within }
 
-pub inside-before-end : {r : BlitRegs} {l w : ℕ} → Inside r l w → step_of r l w < blitWords r
-unfolding blitWords
+pub inside-before-end : {r : BlitRegs} {l w : ℕ} → Inside r l w → step_of r l w < blit_words r
+unfolding blit_words
 inside-before-end {r} {l} {w} i = omega (arith, i.word, mul-le-mul_right (r.words + 1) i.line)
 
 -- No two lines and words count the same.

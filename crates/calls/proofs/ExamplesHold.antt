@@ -6,9 +6,9 @@ use Rattle.calls.proofs.ComputingCalls.{computing-calls}
 pub refusal-examples : RefusalExamples
 unfolding computing-calls
 refusal-examples = record {
-  fullRegisters = refl;
-  lowestRefusal = refl;
-  stateAlone = refl;
-  reconfigureRefused = refl;
-  refusedMasks = refl;
+  full_registers = refl;
+  lowest_refusal = refl;
+  state_alone = refl;
+  reconfigure_refused = refl;
+  refused_masks = refl;
 }

@@ -5,17 +5,17 @@ use Prim.Native.Nat.{ℕ}
 use Rattle.xosera.specs.State.{is_set}
 use Rattle.xosera.specs.Adapter.{Adapter}
 use Rattle.xosera.specs.Plan.{perform}
-use Rattle.xosera.specs.Copper.{beamStep}
+use Rattle.xosera.specs.Copper.{beam_step}
 use Rattle.xosera.specs.Blitter.{stepped, steps}
 use Rattle.xosera.specs.Events.{Event, beam, call, step, run}
-use Rattle.calls.specs.Refusals.{Fit, lentTests, tests, first, refusal}
-use Rattle.xosera.specs.Acts.{actOf, done}
+use Rattle.calls.specs.Refusals.{Fit, lent_tests, tests, first, refusal}
+use Rattle.xosera.specs.Acts.{act_of, done}
 use Rattle.calls.specs.Calls.{after}
 use Rattle.calls.proofs.AfterLaws.{after-fit}
 use Rattle.calls.proofs.RefusalLaws.{fit-passes}
 
 module _ (a : Adapter) (fit : Fit a) where
-  lent-accepted : (e : Event) → tests a e ≡ lentTests a [] → refusal a e ≡ 0
+  lent-accepted : (e : Event) → tests a e ≡ lent_tests a [] → refusal a e ≡ 0
   unfolding refusal first
   lent-accepted e t = ap first t ∙ fit-passes a fit []
 
@@ -42,6 +42,6 @@ module _ (a : Adapter) (fit : Fit a) where
   steps-fit n = subst Fit (after_run n) (after-fit a (run n) fit)
 
   -- A beam step is done.
-  pub after-beam : after a (call beam) ≡ perform (beamStep (is_set a.queued) a.side) a
-  unfolding after done actOf tests
+  pub after-beam : after a (call beam) ≡ perform (beam_step (is_set a.queued) a.side) a
+  unfolding after done act_of tests
   after-beam = rw (lent-accepted (call beam) refl)

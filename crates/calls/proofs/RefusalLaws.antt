@@ -7,11 +7,11 @@ use native.Mathlib.Omega.{arith}
 use lib.Dec.{ltb}
 use lib.ListN.{length, get_or}
 use borrow.Author.Tests.{not-false, eqb-true, eq-eqb}
-use Rattle.xosera.specs.Memories.{isXrLength}
+use Rattle.xosera.specs.Memories.{is_xr_length}
 use Rattle.xosera.specs.Adapter.{Adapter, state_of}
 use Rattle.xosera.specs.Events.{Event, write, read, tick, beam, line, call, step, run}
 use Rattle.xosera.specs.Ranges.{in_range}
-use Rattle.calls.specs.Refusals.{badVram, badXr, badState, Fit, Test, ◌when◌, lentTests, tests, first, refusal}
+use Rattle.calls.specs.Refusals.{bad_vram, bad_xr, bad_state, Fit, Test, ◌when◌, lent_tests, tests, first, refusal}
 use Rattle.xosera.proofs.Branches.{parts}
 
 -- No test has the number 0, which means done.
@@ -54,39 +54,39 @@ accepted-none a e i h = none-applies (tests a e) i (tests-numbered a e) h
 
 -- What is fit to go on meets none of the refusals 1 to 3.
 module _ (a : Adapter) (fit : Fit a) where
-  pub fit-vram : badVram a ≡ false
-  unfolding badVram
+  pub fit-vram : bad_vram a ≡ false
+  unfolding bad_vram
   fit-vram = ap not fit.vram
 
-  pub fit-xr : badXr a ≡ false
-  unfolding badXr isXrLength
+  pub fit-xr : bad_xr a ≡ false
+  unfolding bad_xr is_xr_length
   fit-xr = ap not (eq-eqb (length a.side.xr) 6656 fit.xr)
 
-  pub fit-state : badState a ≡ false
-  unfolding badState
+  pub fit-state : bad_state a ≡ false
+  unfolding bad_state
   fit-state = ap not fit.state
 
   -- Then those that follow decide.
-  pub fit-passes : (more : List Test) → first (lentTests a more) ≡ first more
+  pub fit-passes : (more : List Test) → first (lent_tests a more) ≡ first more
   unfolding first
   fit-passes more = rw (fit-vram, fit-xr, fit-state)
 
 -- What tests both memories and the state and is not refused is fit to go on.
-pub none-fit : (a : Adapter) (more : List Test) → first (lentTests a more) ≡ 0 → Fit a
-unfolding badVram badXr badState isXrLength
+pub none-fit : (a : Adapter) (more : List Test) → first (lent_tests a more) ≡ 0 → Fit a
+unfolding bad_vram bad_xr bad_state is_xr_length
 none-fit a more h =
     let one = passed _ _ (omega arith) h in
     let two = passed _ _ (omega arith) one.1 in
     let three = passed _ _ (omega arith) two.1 in
     record { vram = not-false _ one.0; xr = eqb-true (length a.side.xr) 6656 (not-false _ two.0); state = not-false _ three.0 }
 
-pub lent-fit : (a : Adapter) (e : Event) {more : List Test} → tests a e ≡ lentTests a more → refusal a e ≡ 0 → Fit a
+pub lent-fit : (a : Adapter) (e : Event) {more : List Test} → tests a e ≡ lent_tests a more → refusal a e ≡ 0 → Fit a
 unfolding refusal
 lent-fit a e {more} t h = none-fit a more (sym (ap first t) ∙ h)
 
 -- Refusal 3 can apply to every event.
 pub accepted-in-range : (a : Adapter) (e : Event) → refusal a e ≡ 0 → in_range (state_of a) ≡ true
-unfolding tests badState
+unfolding tests bad_state
 accepted-in-range a (call (write r odd b)) h = (lent-fit a (call (write r odd b)) refl h).state
 accepted-in-range a (call (read r odd)) h = (lent-fit a (call (read r odd)) refl h).state
 accepted-in-range a (call tick) h = not-false _ (accepted-none a (call tick) 0 h)

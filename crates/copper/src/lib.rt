@@ -1,36 +1,36 @@
 // The copper, and the beam step that it works in.
 ghost use Rattle.std.specs.Prelude.{◌≡◌, ℕ, ◌<◌, ◌≤◌, Bool, true, ◌&&◌, List, length, slice_index_or};
-ghost use Rattle.xosera.specs.State.{is_set, stateWords, stateAt};
+ghost use Rattle.xosera.specs.State.{is_set, state_words, state_at};
 ghost use Rattle.xosera.specs.Fields.{opcode};
 ghost use Rattle.xosera.specs.Beam.{frame};
 ghost use Rattle.xosera.specs.Adapter.{Side};
 ghost use Rattle.xosera.specs.Plan.{quiet, Performs};
-ghost use Rattle.xosera.specs.XrSpace.{isBlitRegister};
-ghost use Rattle.xosera.specs.Copper.{copperAt, copperOn, wait, skip, move, pass, instructions, programAt, instruction, beamStep};
-ghost use Rattle.xosera.specs.Ranges.{beamInRange};
+ghost use Rattle.xosera.specs.XrSpace.{is_blit_register};
+ghost use Rattle.xosera.specs.Copper.{copper_at, copper_on, wait, skip, move, pass, instructions, program_at, instruction, beam_step};
+ghost use Rattle.xosera.specs.Ranges.{beam_in_range};
 
 use xosera::{COPPER_MEMORY, COPPER_RUNNING, COPPER_WORD, PROGRAM, QUEUED, XrAddr};
 
 // A word of the program.
 fn program_word(xr: &[u16], k: u16) -> u16
     requires { length xr.now ≡ 6656 }
-    ensures { result ≡ programAt xr.now k }
+    ensures { result ≡ program_at xr.now k }
 {
     xr[COPPER_MEMORY + (k % PROGRAM) as usize]
 }
 
 // The copper at a word of its program.
 fn jump(s: &mut [u16], k: u16)
-    requires { length s.old ≡ stateWords }
-    ensures { (v x : List ℕ) → Performs (λ (side : Side). quiet (copperAt side k)) s.old v x s.new v x }
+    requires { length s.old ≡ state_words }
+    ensures { (v x : List ℕ) → Performs (λ (side : Side). quiet (copper_at side k)) s.old v x s.new v x }
 {
     s[COPPER_WORD] = k % PROGRAM;
 }
 
 // The copper n words on.
 fn go_on(s: &mut [u16], n: u16)
-    requires { length s.old ≡ stateWords }
-    ensures { (v x : List ℕ) → Performs (λ (side : Side). quiet (copperOn side n)) s.old v x s.new v x }
+    requires { length s.old ≡ state_words }
+    ensures { (v x : List ℕ) → Performs (λ (side : Side). quiet (copper_on side n)) s.old v x s.new v x }
 {
     let k = std::num::wrapping_add_u16(s[COPPER_WORD], n);
     s[COPPER_WORD] = k % PROGRAM;
@@ -38,7 +38,7 @@ fn go_on(s: &mut [u16], n: u16)
 
 // WAIT.
 fn wait(s: &mut [u16], first: u16, second: u16)
-    requires { length s.old ≡ stateWords }
+    requires { length s.old ≡ state_words }
     ensures { (full : Bool) (v x : List ℕ) → Performs (λ (side : Side). wait full side first second) s.old v x s.new v x }
 {
     if beam::position_reached(s, false, first, second) {
@@ -48,7 +48,7 @@ fn wait(s: &mut [u16], first: u16, second: u16)
 
 // SKIP.
 fn skip(s: &mut [u16], first: u16, second: u16)
-    requires { length s.old ≡ stateWords }
+    requires { length s.old ≡ state_words }
     ensures { (full : Bool) (v x : List ℕ) → Performs (λ (side : Side). skip full side first second) s.old v x s.new v x }
 {
     if beam::position_reached(s, true, first, second) {
@@ -74,7 +74,7 @@ fn move_address(first: u16) -> u16
 
 // A move to a memory.
 fn move_memory(s: &mut [u16], xr: &mut [u16], a: u16, w: u16)
-    requires s_len { length s.old ≡ stateWords }
+    requires s_len { length s.old ≡ state_words }
     requires xr_len { length xr.old ≡ 6656 }
     requires le_a { 0x4000 ≤ a }
     ensures { (full : Bool) (v : List ℕ) → Performs (λ (side : Side). move full side a w) s.old v xr.old s.new v
@@ -86,7 +86,7 @@ fn move_memory(s: &mut [u16], xr: &mut [u16], a: u16, w: u16)
 
 // Whether a move is to a full blitter.
 fn is_dropped(full: bool, a: u16) -> bool
-    ensures { result ≡ (full && isBlitRegister a) }
+    ensures { result ≡ (full && is_blit_register a) }
 {
     if !full {
         return false;
@@ -96,9 +96,9 @@ fn is_dropped(full: bool, a: u16) -> bool
 
 // A move to a register: dropped on a full blitter, else what a host's word to that address does.
 fn move_register(s: &mut [u16], a: u16, w: u16)
-    requires s_len { length s.old ≡ stateWords }
+    requires s_len { length s.old ≡ state_words }
     requires a_bound { a < 0x4000 }
-    ensures { (v x : List ℕ) → Performs (λ (side : Side). move (is_set (stateAt s.old).queued) side a w) s.old v x
+    ensures { (v x : List ℕ) → Performs (λ (side : Side). move (is_set (state_at s.old).queued) side a w) s.old v x
         s.new v x }
 {
     let dropped = is_dropped(s[QUEUED] == 1, a);
@@ -111,9 +111,9 @@ fn move_register(s: &mut [u16], a: u16, w: u16)
 
 // One instruction: the two words from the copper's word on.
 fn instruction(s: &mut [u16], xr: &mut [u16])
-    requires s_len { length s.old ≡ stateWords }
+    requires s_len { length s.old ≡ state_words }
     requires xr_len { length xr.old ≡ 6656 }
-    ensures { (v : List ℕ) → Performs (instruction (is_set (stateAt s.old).queued)) s.old v xr.old s.new v
+    ensures { (v : List ℕ) → Performs (instruction (is_set (state_at s.old).queued)) s.old v xr.old s.new v
         xr.new }
 {
     let k = s[COPPER_WORD];
@@ -131,10 +131,10 @@ fn instruction(s: &mut [u16], xr: &mut [u16])
 
 // A beam step: the beam one pixel on, then an instruction of a running copper.
 pub fn beam_step(s: &mut [u16], xr: &mut [u16])
-    requires s_len { length s.old ≡ stateWords }
+    requires s_len { length s.old ≡ state_words }
     requires xr_len { length xr.old ≡ 6656 }
-    requires s_value { beamInRange frame (stateAt s.old).beam ≡ true }
-    ensures { (v : List ℕ) → Performs (beamStep (is_set (stateAt s.old).queued)) s.old v xr.old s.new v
+    requires s_value { beam_in_range frame (state_at s.old).beam ≡ true }
+    ensures { (v : List ℕ) → Performs (beam_step (is_set (state_at s.old).queued)) s.old v xr.old s.new v
         xr.new }
 {
     beam::arrive(s);

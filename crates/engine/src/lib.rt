@@ -1,9 +1,9 @@
 // The blitter's engine: one word a step. It knows nothing of the host.
 ghost use Rattle.std.specs.Prelude.{◌≡◌, true, false, length, if◌then◌else◌};
 ghost use Rattle.xosera.specs.Words.{wrap};
-ghost use Rattle.xosera.specs.Memories.{isVramLength};
-ghost use Rattle.xosera.specs.Blitter.{idle, launched, isConstant, fetched, sourced, lastWord, firstMask, lastMask};
-ghost use Rattle.xosera.specs.Blitter.{testMask, writeMask, drawing, lastStep, nextSource, nextDest, next};
+ghost use Rattle.xosera.specs.Memories.{is_vram_length};
+ghost use Rattle.xosera.specs.Blitter.{idle, launched, is_constant, fetched, sourced, last_word, first_mask, last_mask};
+ghost use Rattle.xosera.specs.Blitter.{test_mask, write_mask, drawing, last_step, next_source, next_dest, next};
 ghost use Rattle.xosera.specs.Ranges.{Running};
 ghost use Rattle.words.specs.Spread.{spread};
 ghost use Rattle.engine.specs.Drawing.{DrewOne};
@@ -51,14 +51,14 @@ pub fn launch(r: BlitRegs) -> Engine
 }
 
 pub fn last_word(e: Engine) -> bool
-    ensures { result ≡ lastWord e }
+    ensures { result ≡ last_word e }
 {
     e.word == e.regs.words
 }
 
 // The blit's last word.
 pub fn last_step(e: Engine) -> bool
-    ensures { result ≡ lastStep e }
+    ensures { result ≡ last_step e }
 {
     if last_word(e) {
         return e.line == e.regs.lines;
@@ -67,14 +67,14 @@ pub fn last_step(e: Engine) -> bool
 }
 
 fn is_constant(e: Engine) -> bool
-    ensures { result ≡ isConstant e }
+    ensures { result ≡ is_constant e }
 {
     fields::constant_source(e.regs.ctrl)
 }
 
 // The first mask on a line's first word.
 pub fn first_mask(e: Engine) -> u16
-    ensures { result ≡ firstMask e }
+    ensures { result ≡ first_mask e }
 {
     if e.word == 0 {
         fields::first_edge(e.regs.shift)
@@ -85,7 +85,7 @@ pub fn first_mask(e: Engine) -> u16
 
 // The last mask on a line's last word.
 pub fn last_mask(e: Engine) -> u16
-    ensures { result ≡ lastMask e }
+    ensures { result ≡ last_mask e }
 {
     if last_word(e) {
         fields::last_edge(e.regs.shift)
@@ -96,7 +96,7 @@ pub fn last_mask(e: Engine) -> u16
 
 // The colour test as a spread mask, if it is asked for.
 pub fn test_bits(e: Engine, s: u16) -> u16
-    ensures { result ≡ spread (testMask e s) }
+    ensures { result ≡ spread (test_mask e s) }
 {
     let ctrl = e.regs.ctrl;
     if fields::colour_tested(ctrl) {
@@ -108,14 +108,14 @@ pub fn test_bits(e: Engine, s: u16) -> u16
 
 // The nibbles that a step writes, as a spread mask.
 fn write_bits(e: Engine, s: u16) -> u16
-    ensures { result ≡ spread (writeMask e s) }
+    ensures { result ≡ spread (write_mask e s) }
 {
     words::spread(first_mask(e) & last_mask(e)) & test_bits(e, s)
 }
 
 // The word that a step takes: the VRAM word at the source address, or none of a constant.
 fn fetch(e: Engine, vram: &[u16]) -> u16
-    requires { isVramLength (length vram.now) ≡ true }
+    requires { is_vram_length (length vram.now) ≡ true }
     ensures { result ≡ fetched e vram.now }
 {
     if is_constant(e) {
@@ -138,7 +138,7 @@ pub fn source(e: Engine, word: u16) -> u16
 
 // The nibbles that the next step writes.
 pub fn next_mask(e: Engine, vram: &[u16]) -> u16
-    requires { isVramLength (length vram.now) ≡ true }
+    requires { is_vram_length (length vram.now) ≡ true }
     ensures { result ≡ (drawing e (fetched e vram.now)).mask }
 {
     let word = fetch(e, vram);
@@ -154,7 +154,7 @@ pub struct Drawn {
 
 // One word drawn.
 pub fn draw(e: Engine, vram: &mut [u16]) -> Drawn
-    requires { isVramLength (length vram.old) ≡ true }
+    requires { is_vram_length (length vram.old) ≡ true }
     ensures { DrewOne e vram.old result vram.new }
 {
     let word = fetch(e, vram);
@@ -168,7 +168,7 @@ pub fn draw(e: Engine, vram: &mut [u16]) -> Drawn
 
 // The source goes up by 1 unless it is a constant.
 fn source_up(e: Engine) -> u16
-    ensures { result ≡ (if isConstant e then e.regs.srcs else wrap e.regs.srcs 1) }
+    ensures { result ≡ (if is_constant e then e.regs.srcs else wrap e.regs.srcs 1) }
 {
     if is_constant(e) {
         return e.regs.srcs;
@@ -177,7 +177,7 @@ fn source_up(e: Engine) -> u16
 }
 
 fn next_source(e: Engine) -> u16
-    ensures { result ≡ nextSource e }
+    ensures { result ≡ next_source e }
 {
     let src = source_up(e);
     if last_word(e) {
@@ -187,7 +187,7 @@ fn next_source(e: Engine) -> u16
 }
 
 fn next_dest(e: Engine) -> u16
-    ensures { result ≡ nextDest e }
+    ensures { result ≡ next_dest e }
 {
     let dst = std::num::wrapping_add_u16(e.regs.dstd, 1);
     if last_word(e) {
@@ -199,7 +199,7 @@ fn next_dest(e: Engine) -> u16
 // The engine after a word that is not the blit's last.
 pub fn advance(e: Engine, word: u16) -> Engine
     requires running { Running e }
-    requires e_value { lastStep e ≡ false }
+    requires e_value { last_step e ≡ false }
     ensures { result ≡ next e word }
 {
     let src = next_source(e);

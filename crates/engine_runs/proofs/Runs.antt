@@ -6,9 +6,9 @@ use Prim.Native.Nat.{ℕ, zero, suc, ◌-◌, ◌<◌}
 use native.Mathlib.Omega.{arith}
 use Rattle.xosera.specs.declared.Engine.{Engine}
 use Rattle.engine_runs.specs.declared.Ran.{Ran}
-use Rattle.xosera.specs.Memories.{isVramLength}
+use Rattle.xosera.specs.Memories.{is_vram_length}
 use Rattle.xosera.specs.Adapter.{Adapter}
-use Rattle.xosera.specs.Blitter.{fetched, lastStep, next, drawn, moved, stepped, steps}
+use Rattle.xosera.specs.Blitter.{fetched, last_step, next, drawn, moved, stepped, steps}
 use Rattle.xosera.specs.Ranges.{Running}
 use Rattle.xosera.proofs.StepCases.{stepped-on, stepped-last}
 use Rattle.xosera.proofs.EngineLaws.{next-running, next-left, last-left, drawn-length}
@@ -35,7 +35,7 @@ unrolled (suc rest) a h =
     ap (λ (n : ℕ). steps n (stepped a)) e
 
 module _ {e : Engine} {v : List ℕ} {n : ℕ} {f : Engine} {u : List ℕ} {rest : ℕ} (g : Going e v n f u rest) (more : 0 < rest) where
-  pub going_on : lastStep f ≡ false → Going e v n (next f (fetched f u)) (drawn f u) (rest - 1)
+  pub going_on : last_step f ≡ false → Going e v n (next f (fetched f u)) (drawn f u) (rest - 1)
   going_on h = record {
     reached = λ a. ap (steps (rest - 1)) (sym (stepped-on (moved a f u) g.goes_on.runs h)) ∙ sym (unrolled rest (moved a f u) more) ∙ g.reached a;
     goes_on = next-running f (fetched f u) g.goes_on h;
@@ -44,7 +44,7 @@ module _ {e : Engine} {v : List ℕ} {n : ℕ} {f : Engine} {u : List ℕ} {rest
     vram-length = drawn-length f u ∙ g.vram-length;
   }
 
-  pub going-ended : lastStep f ≡ true → Ended e v n (drawn f u) (rest - 1)
+  pub going-ended : last_step f ≡ true → Ended e v n (drawn f u) (rest - 1)
   going-ended h = record {
     reached = λ a. ap (steps (rest - 1)) (sym (stepped-last (moved a f u) g.goes_on.runs h)) ∙ sym (unrolled rest (moved a f u) more) ∙ g.reached a;
     words_left = omega (arith, g.words_left, last-left f g.goes_on h);
@@ -52,17 +52,17 @@ module _ {e : Engine} {v : List ℕ} {n : ℕ} {f : Engine} {u : List ℕ} {rest
   }
 
   -- The same of what the functions that draw and advance hand back.
-  pub going-drawn : {word : ℕ} {w : List ℕ} {d : Engine} → lastStep f ≡ false → word ≡ fetched f u → w ≡ drawn f u → d ≡ next f word
+  pub going-drawn : {word : ℕ} {w : List ℕ} {d : Engine} → last_step f ≡ false → word ≡ fetched f u → w ≡ drawn f u → d ≡ next f word
       → Going e v n d w (rest - 1)
   going-drawn {word} {w} {d} h r s t =
       subst₂ (λ (x : Engine) (y : List ℕ). Going e v n x y (rest - 1)) (sym (t ∙ ap (next f) r)) (sym s) (going_on h)
 
-  pub drawn-ended : {w : List ℕ} → lastStep f ≡ true → w ≡ drawn f u → Ended e v n w (rest - 1)
+  pub drawn-ended : {w : List ℕ} → last_step f ≡ true → w ≡ drawn f u → Ended e v n w (rest - 1)
   drawn-ended {w} h s = subst (λ (y : List ℕ). Ended e v n y (rest - 1)) (sym s) (going-ended h)
 
 -- A VRAM that kept its length still has a legal one.
-pub long-enough : {m n : ℕ} → m ≡ n → isVramLength n ≡ true → isVramLength m ≡ true
-long-enough e h = ap isVramLength e ∙ h
+pub long-enough : {m n : ℕ} → m ≡ n → is_vram_length n ≡ true → is_vram_length m ≡ true
+long-enough e h = ap is_vram_length e ∙ h
 
 -- A run that did all its steps, and one that the blit's end stopped.
 pub ran-all : {e : Engine} {v u : List ℕ} {n rest : ℕ} (r : Ran) → r.over ≡ false → rest ≡ 0 → Going e v n r.engine u rest → RanTo e v n r u

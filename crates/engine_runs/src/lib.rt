@@ -1,7 +1,7 @@
 // Runs of words inside one blit.
 ghost use Rattle.std.specs.Prelude.{◌≡◌, true, ◌≤◌, length};
-ghost use Rattle.xosera.specs.Memories.{isVramLength};
-ghost use Rattle.xosera.specs.Blitter.{engineLeft};
+ghost use Rattle.xosera.specs.Memories.{is_vram_length};
+ghost use Rattle.xosera.specs.Blitter.{engine_left};
 ghost use Rattle.xosera.specs.Ranges.{Running};
 ghost use Rattle.engine_runs.specs.Progress.{Going, RanTo};
 
@@ -17,7 +17,7 @@ pub struct Ran {
 
 // Up to n steps on words that are neither first nor last of their line, so that no edge mask is needed.
 fn run_inside(e: Engine, vram: &mut [u16], n: u64) -> Ran
-    requires vram_value { isVramLength (length vram.old) ≡ true }
+    requires vram_value { is_vram_length (length vram.old) ≡ true }
     requires running { Running e }
     ensures { Going e vram.old n result.engine vram.new result.rest }
 {
@@ -43,7 +43,7 @@ fn run_inside(e: Engine, vram: &mut [u16], n: u64) -> Ran
 
 // Up to n steps of a running blit. It stops at the blit's last word.
 pub fn run_blit(e: Engine, vram: &mut [u16], n: u64) -> Ran
-    requires vram_value { isVramLength (length vram.old) ≡ true }
+    requires vram_value { is_vram_length (length vram.old) ≡ true }
     requires running { Running e }
     ensures { RanTo e vram.old n result vram.new }
 {
@@ -77,7 +77,7 @@ pub fn run_blit(e: Engine, vram: &mut [u16], n: u64) -> Ran
 // The words left in a running blit, at most 32,768 lines of 65,536.
 pub fn words_left(e: Engine) -> u64
     requires { Running e }
-    ensures { (result ≡ engineLeft e) × (result ≤ 0x80000000) }
+    ensures { (result ≡ engine_left e) × (result ≤ 0x80000000) }
 {
     let whole = (e.regs.words as u64) + 1;
     (whole - e.word as u64) + (e.regs.lines as u64 - e.line as u64) * whole

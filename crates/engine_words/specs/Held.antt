@@ -2,8 +2,8 @@
 use Rattle.xosera.specs.declared.Engine.{Engine}
 use Rattle.xosera.specs.State.{State}
 
-abbrev pub withEngine : State → Engine → State
-withEngine s e = record { host = s.host; queued = s.queued; status = s.status; engine = e; video = s.video; blit = s.blit; beam = s.beam }
+abbrev pub with_engine : State → Engine → State
+with_engine s e = record { host = s.host; queued = s.queued; status = s.status; engine = e; video = s.video; blit = s.blit; beam = s.beam }
 
 -- Engine e with the line, word, kept word, source and destination of f.
 abbrev pub moving : Engine → Engine → Engine

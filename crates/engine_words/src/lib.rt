@@ -1,7 +1,7 @@
 // The engine and the blitter's registers, between the words of the state and the structs that the engine's functions take.
 ghost use Rattle.std.specs.Prelude.{◌≡◌, ◌+◌, ◌≤◌, length};
-ghost use Rattle.xosera.specs.State.{stateWords, regsFrom, word_at, stateAt};
-ghost use Rattle.engine_words.specs.Held.{withEngine, moving};
+ghost use Rattle.xosera.specs.State.{state_words, regs_from, word_at, state_at};
+ghost use Rattle.engine_words.specs.Held.{with_engine, moving};
 
 use xosera::{
     BLIT_REGS, BlitRegs, ENGINE_ANDC, ENGINE_CTRL, ENGINE_DST_D, ENGINE_KEPT, ENGINE_LINE,
@@ -11,9 +11,9 @@ use xosera::{
 
 // Ten registers from a place on.
 fn regs_from(s: &[u16], at: usize) -> BlitRegs
-    requires s_len { length s.now ≡ stateWords }
-    requires at_bound { at + 10 ≤ stateWords }
-    ensures { result ≡ regsFrom at (word_at s.now) }
+    requires s_len { length s.now ≡ state_words }
+    requires at_bound { at + 10 ≤ state_words }
+    ensures { result ≡ regs_from at (word_at s.now) }
 {
     BlitRegs {
         ctrl: s[at],
@@ -31,16 +31,16 @@ fn regs_from(s: &[u16], at: usize) -> BlitRegs
 
 // The registers as the host wrote them.
 pub fn blit_regs(s: &[u16]) -> BlitRegs
-    requires { length s.now ≡ stateWords }
-    ensures { result ≡ (stateAt s.now).blit }
+    requires { length s.now ≡ state_words }
+    ensures { result ≡ (state_at s.now).blit }
 {
     regs_from(s, BLIT_REGS)
 }
 
 // The running blit.
 pub fn engine_of(s: &[u16]) -> Engine
-    requires { length s.now ≡ stateWords }
-    ensures { result ≡ (stateAt s.now).engine }
+    requires { length s.now ≡ state_words }
+    ensures { result ≡ (state_at s.now).engine }
 {
     let regs = regs_from(s, ENGINE_CTRL);
     Engine {
@@ -54,8 +54,8 @@ pub fn engine_of(s: &[u16]) -> Engine
 
 // All words of an engine.
 pub fn put_engine(s: &mut [u16], e: Engine)
-    requires { length s.old ≡ stateWords }
-    ensures { stateAt s.new ≡ withEngine (stateAt s.old) e }
+    requires { length s.old ≡ state_words }
+    ensures { state_at s.new ≡ with_engine (state_at s.old) e }
 {
     s[ENGINE_RUNNING] = e.running;
     s[ENGINE_LINE] = e.line;
@@ -75,8 +75,8 @@ pub fn put_engine(s: &mut [u16], e: Engine)
 
 // The words that a step inside a blit moves on: line, word, kept word, source and destination.
 pub fn move_on(s: &mut [u16], e: Engine)
-    requires { length s.old ≡ stateWords }
-    ensures { stateAt s.new ≡ withEngine (stateAt s.old) (moving (stateAt s.old).engine e) }
+    requires { length s.old ≡ state_words }
+    ensures { state_at s.new ≡ with_engine (state_at s.old) (moving (state_at s.old).engine e) }
 {
     s[ENGINE_LINE] = e.line;
     s[ENGINE_WORD] = e.word;

@@ -1,7 +1,7 @@
 // A saved adapter's bytes: words, the contents and their test. Each function works on a part of the file that is as long as
 // what stands there.
 ghost use Rattle.std.specs.Prelude.{◌≡◌, [], ◌∷◌, ◌+◌, ◌*◌, ◌/◌, ◌%◌, ◌<◌, length, get_or, set};
-ghost use Rattle.saved_file.specs.SavedFile.{bytes_of, words_of, entry, contents, sameBytes};
+ghost use Rattle.saved_file.specs.SavedFile.{bytes_of, words_of, entry, contents, same_bytes};
 
 // Where the bodies of state, XR memory and VRAM start.
 pub const STATE_START: usize = 28;
@@ -89,7 +89,7 @@ pub fn put_contents(part: &mut [u8], vram: u32)
 // Whether two parts are the same, byte for byte.
 fn same(a: &[u8], b: &[u8]) -> bool
     requires { length a.now ≡ length b.now }
-    ensures { result ≡ sameBytes a.now b.now }
+    ensures { result ≡ same_bytes a.now b.now }
 {
     let mut i = 0;
     while i < a.len() {
@@ -104,7 +104,7 @@ fn same(a: &[u8], b: &[u8]) -> bool
 // Whether these are the contents of a file whose VRAM is so many bytes long.
 pub fn are_contents(part: &[u8], vram: u32) -> bool
     requires { length part.now ≡ 28 }
-    ensures { result ≡ sameBytes (contents (150 ∷ 13312 ∷ vram ∷ [])) part.now }
+    ensures { result ≡ same_bytes (contents (150 ∷ 13312 ∷ vram ∷ [])) part.now }
 {
     let mut wanted = [0u8; STATE_START];
     put_contents(&mut wanted, vram);

@@ -1,15 +1,15 @@
 // The calls for C: the public calls under the prefix xosera_, the words of the state behind a pointer and each memory as
 // pointer and length.
 ghost use Rattle.std.specs.Prelude.{◌≡◌, List, ℕ};
-ghost use Rattle.xosera.specs.State.{stateAt};
-ghost use Rattle.xosera.specs.Adapter.{adapterAt};
-ghost use Rattle.xosera.specs.Events.{write, read, tick, beam, line, call, step, run, Untouched, ofWrite, ofRead, ofBlit, ofState, ofLine};
-ghost use Rattle.xosera.specs.Ranges.{resetState};
+ghost use Rattle.xosera.specs.State.{state_at};
+ghost use Rattle.xosera.specs.Adapter.{adapter_at};
+ghost use Rattle.xosera.specs.Events.{write, read, tick, beam, line, call, step, run, Untouched, of_write, of_read, of_blit, of_state, of_line};
+ghost use Rattle.xosera.specs.Ranges.{reset_state};
 ghost use Rattle.calls.specs.Promises.{Does};
-ghost use Rattle.saved_file.specs.SaveLoad.{ofSave, ofLoad, Saves, Loads};
+ghost use Rattle.saved_file.specs.SaveLoad.{of_save, of_load, Saves, Loads};
 ghost use Rattle.reasons.specs.WhyCall.{Explains};
 ghost use Rattle.scanline.specs.PaintCall.{Paints};
-ghost use Rattle.grey.specs.Grey.{greyLevel};
+ghost use Rattle.grey.specs.Grey.{grey_level};
 ghost use Rattle.paint_grey.specs.GreyLine.{PaintsGrey};
 
 use reasons::WhyAnswer;
@@ -29,7 +29,7 @@ pub extern "C" fn xosera_header_needs_library_1_3_0() -> u32
 
 #[unsafe(no_mangle)]
 pub extern "C" fn xosera_reset(s: &mut [u16; STATE_WORDS])
-    ensures { stateAt s.new ≡ resetState }
+    ensures { state_at s.new ≡ reset_state }
 {
     adapter::reset(s);
 }
@@ -43,9 +43,9 @@ pub extern "C" fn xosera_write_byte(
     odd: bool,
     byte: u8,
 ) -> WriteAnswer
-    ensures done { Does (adapterAt s.old vram.old xr.old) (call (write reg odd byte)) (ofWrite result)
-        (adapterAt s.new vram.new xr.new) }
-    ensures refused { Untouched (ofWrite result) s.old s.new }
+    ensures done { Does (adapter_at s.old vram.old xr.old) (call (write reg odd byte)) (of_write result)
+        (adapter_at s.new vram.new xr.new) }
+    ensures refused { Untouched (of_write result) s.old s.new }
 {
     adapter::write_byte(s, vram, xr, reg, odd, byte)
 }
@@ -58,9 +58,9 @@ pub extern "C" fn xosera_read_byte(
     reg: u8,
     odd: bool,
 ) -> ReadAnswer
-    ensures done { Does (adapterAt s.old vram.now xr.now) (call (read reg odd)) (ofRead result)
-        (adapterAt s.new vram.now xr.now) }
-    ensures refused { Untouched (ofRead result) s.old s.new }
+    ensures done { Does (adapter_at s.old vram.now xr.now) (call (read reg odd)) (of_read result)
+        (adapter_at s.new vram.now xr.now) }
+    ensures refused { Untouched (of_read result) s.old s.new }
 {
     adapter::read_byte(s, vram, xr, reg, odd)
 }
@@ -71,9 +71,9 @@ pub extern "C" fn xosera_blit_step(
     vram: &mut [u16],
     xr: &[u16],
 ) -> BlitAnswer
-    ensures done { Does (adapterAt s.old vram.old xr.now) step (ofBlit result)
-        (adapterAt s.new vram.new xr.now) }
-    ensures refused { Untouched (ofBlit result) s.old s.new }
+    ensures done { Does (adapter_at s.old vram.old xr.now) step (of_blit result)
+        (adapter_at s.new vram.new xr.now) }
+    ensures refused { Untouched (of_blit result) s.old s.new }
 {
     adapter_steps::blit_step(s, vram, xr)
 }
@@ -85,17 +85,17 @@ pub extern "C" fn xosera_blit_run(
     xr: &[u16],
     n: u64,
 ) -> BlitAnswer
-    ensures done { Does (adapterAt s.old vram.old xr.now) (run n) (ofBlit result)
-        (adapterAt s.new vram.new xr.now) }
-    ensures refused { Untouched (ofBlit result) s.old s.new }
+    ensures done { Does (adapter_at s.old vram.old xr.now) (run n) (of_blit result)
+        (adapter_at s.new vram.new xr.now) }
+    ensures refused { Untouched (of_blit result) s.old s.new }
 {
     adapter_steps::blit_run(s, vram, xr, n)
 }
 
 #[unsafe(no_mangle)]
 pub extern "C" fn xosera_timer_tick(s: &mut [u16; STATE_WORDS]) -> StateAnswer
-    ensures done { (v x : List ℕ) → Does (adapterAt s.old v x) (call tick) (ofState result) (adapterAt s.new v x) }
-    ensures refused { Untouched (ofState result) s.old s.new }
+    ensures done { (v x : List ℕ) → Does (adapter_at s.old v x) (call tick) (of_state result) (adapter_at s.new v x) }
+    ensures refused { Untouched (of_state result) s.old s.new }
 {
     adapter_steps::timer_tick(s)
 }
@@ -106,16 +106,16 @@ pub extern "C" fn xosera_beam_step(
     vram: &[u16],
     xr: &mut [u16],
 ) -> StateAnswer
-    ensures done { Does (adapterAt s.old vram.now xr.old) (call beam) (ofState result)
-        (adapterAt s.new vram.now xr.new) }
-    ensures refused { Untouched (ofState result) s.old s.new }
+    ensures done { Does (adapter_at s.old vram.now xr.old) (call beam) (of_state result)
+        (adapter_at s.new vram.now xr.new) }
+    ensures refused { Untouched (of_state result) s.old s.new }
 {
     adapter_steps::beam_step(s, vram, xr)
 }
 
 #[unsafe(no_mangle)]
 pub extern "C" fn xosera_interrupt_line(s: &[u16; STATE_WORDS]) -> LineAnswer
-    ensures { (v x : List ℕ) → Does (adapterAt s.now v x) (call line) (ofLine result) (adapterAt s.now v x) }
+    ensures { (v x : List ℕ) → Does (adapter_at s.now v x) (call line) (of_line result) (adapter_at s.now v x) }
 {
     adapter::interrupt_line(s)
 }
@@ -127,7 +127,7 @@ pub extern "C" fn xosera_save(
     xr: &[u16],
     room: &mut [u8],
 ) -> SaveAnswer
-    ensures { Saves (adapterAt s.now vram.now xr.now) room.old (ofSave result) room.new }
+    ensures { Saves (adapter_at s.now vram.now xr.now) room.old (of_save result) room.new }
 {
     saving::save(s, vram, xr, room)
 }
@@ -139,9 +139,9 @@ pub extern "C" fn xosera_load(
     xr: &mut [u16],
     file: &[u8],
 ) -> LoadAnswer
-    ensures done { Loads (adapterAt s.old vram.old xr.old) file.now (ofLoad result)
-        (adapterAt s.new vram.new xr.new) }
-    ensures refused { Untouched (ofLoad result) s.old s.new }
+    ensures done { Loads (adapter_at s.old vram.old xr.old) file.now (of_load result)
+        (adapter_at s.new vram.new xr.new) }
+    ensures refused { Untouched (of_load result) s.old s.new }
 {
     saving::load(s, vram, xr, file)
 }
@@ -167,14 +167,14 @@ pub extern "C" fn xosera_paint(
     line: u32,
     pixels: &mut [u16],
 ) -> PaintAnswer
-    ensures { Paints (adapterAt s.now vram.now xr.now) line pixels.old result.refusal pixels.new }
+    ensures { Paints (adapter_at s.now vram.now xr.now) line pixels.old result.refusal pixels.new }
 {
     paint::paint(s, vram, xr, line, pixels)
 }
 
 #[unsafe(no_mangle)]
 pub extern "C" fn xosera_grey(colour: u16) -> u8
-    ensures { result ≡ greyLevel colour }
+    ensures { result ≡ grey_level colour }
 {
     grey::grey(colour)
 }
@@ -187,7 +187,7 @@ pub extern "C" fn xosera_paint_grey(
     line: u32,
     pixels: &mut [u16],
 ) -> PaintAnswer
-    ensures { PaintsGrey (adapterAt s.now vram.now xr.now) line pixels.old result.refusal
+    ensures { PaintsGrey (adapter_at s.now vram.now xr.now) line pixels.old result.refusal
         pixels.new }
 {
     paint_grey::paint_grey(s, vram, xr, line, pixels)

@@ -7,9 +7,9 @@ use native.Mathlib.Nat.{mul-div_left, mul-mod_left}
 use native.Mathlib.Omega.{arith}
 use lib.Dec.{eqb}
 use borrow.Author.Tests.{eqb-true, eqb-false}
-use Rattle.xosera.specs.Beam.{Frame, lineEnds, nextLine, beamMoved, rest}
+use Rattle.xosera.specs.Beam.{Frame, line_ends, next_line, beam_moved, rest}
 use Rattle.xosera.proofs.Branches.{cond_yes, cond_no}
-use Rattle.frames.specs.Frames.{frameSteps, placeAfter}
+use Rattle.frames.specs.Frames.{frame_steps, place_after}
 
 -- One more than n by a number m: the remainder is one more, or 0 and the quotient one more.
 module _ (m : ℕ) (some : 0 < m) (n : ℕ) where
@@ -31,8 +31,8 @@ module _ (m : ℕ) (some : 0 < m) (n : ℕ) where
       go false e = let none = div-eq_of_lt {n = n % m + 1} {m = m} (omega (arith, mod-lt n some, eqb-false (n % m + 1) m e)) in omega (arith, none)
 
 module _ (f : Frame) (positions : 0 < f.positions) (lines : 0 < f.lines) where
-  pub moves-on : (n : ℕ) → beamMoved f (placeAfter f n) ≡ placeAfter f (suc n)
-  unfolding beamMoved nextLine lineEnds
+  pub moves-on : (n : ℕ) → beam_moved f (place_after f n) ≡ place_after f (suc n)
+  unfolding beam_moved next_line line_ends
   moves-on n = λ i. record {
     line = line_on i;
     position = sym (counted-mod f.positions positions n) i;
@@ -57,7 +57,7 @@ module _ (f : Frame) (positions : 0 < f.positions) (lines : 0 < f.lines) where
           go false e = sym (ap (λ (k : ℕ). k % f.lines) (counted-div f.positions positions n ∙ cond_no _ _ e))
 
   -- After a frame's steps it is at rest again.
-  pub frame-returns : placeAfter f (frameSteps f) ≡ rest
+  pub frame-returns : place_after f (frame_steps f) ≡ rest
   frame-returns = λ i. record {
     line = (ap (λ (k : ℕ). k % f.lines) (mul-div_left f.lines positions) ∙ mod_self f.lines) i;
     position = mul-mod_left f.lines f.positions i;

@@ -17,5 +17,5 @@ unfoldable pub level : ℕ → ℕ → ℕ → ℕ
 level r g b = (299 * r + 587 * g + 114 * b + 500) / 1000
 
 -- "For every colour 0xRGB".
-unfoldable pub greyLevel : ℕ → ℕ
-greyLevel colour = level (red colour) (green colour) (blue colour)
+unfoldable pub grey_level : ℕ → ℕ
+grey_level colour = level (red colour) (green colour) (blue colour)

@@ -2,8 +2,8 @@
 mod levels;
 
 ghost use Rattle.std.specs.Prelude.{◌≡◌, map};
-ghost use Rattle.grey.specs.Grey.{greyLevel};
-ghost use Rattle.grey.specs.LevelTable.{levelIn, HoldsLevels};
+ghost use Rattle.grey.specs.Grey.{grey_level};
+ghost use Rattle.grey.specs.LevelTable.{level_in, HoldsLevels};
 
 use levels::LEVELS;
 
@@ -16,7 +16,7 @@ fn table() -> [u64; 256]
 
 // The level that a table has for a colour.
 fn level_in(table: &[u64; 256], colour: u16) -> u16
-    ensures { result ≡ levelIn table.now colour }
+    ensures { result ≡ level_in table.now colour }
 {
     let word = table[(colour % 4096 / 16) as usize];
     ((word >> (60 - colour % 16 * 4)) % 16) as u16
@@ -24,7 +24,7 @@ fn level_in(table: &[u64; 256], colour: u16) -> u16
 
 // Takes each word through a table.
 fn through(table: &[u64; 256], words: &mut [u16])
-    ensures { words.new ≡ map (levelIn table.now) words.old }
+    ensures { words.new ≡ map (level_in table.now) words.old }
 {
     let mut i = 0;
     while i < words.len() {
@@ -35,7 +35,7 @@ fn through(table: &[u64; 256], words: &mut [u16])
 
 // Each word becomes its level.
 pub fn grey_words(words: &mut [u16])
-    ensures { words.new ≡ map greyLevel words.old }
+    ensures { words.new ≡ map grey_level words.old }
 {
     let levels = table();
     through(&levels, words);
@@ -43,7 +43,7 @@ pub fn grey_words(words: &mut [u16])
 
 // The level of a colour.
 pub fn grey(colour: u16) -> u8
-    ensures { result ≡ greyLevel colour }
+    ensures { result ≡ grey_level colour }
 {
     let mut words = [colour];
     grey_words(&mut words);

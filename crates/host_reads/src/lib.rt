@@ -1,9 +1,9 @@
 // What byte reads of the main registers give.
 ghost use Rattle.std.specs.Prelude.{◌≡◌, true, cond, List, ℕ, ◌≤◌, length};
-ghost use Rattle.xosera.specs.State.{stateWords, stateAt};
-ghost use Rattle.xosera.specs.Fields.{flagBits};
-ghost use Rattle.xosera.specs.Adapter.{adapterAt};
-ghost use Rattle.xosera.specs.HostBytes.{shown, flags_of, highByte, lowByte};
+ghost use Rattle.xosera.specs.State.{state_words, state_at};
+ghost use Rattle.xosera.specs.Fields.{flag_bits};
+ghost use Rattle.xosera.specs.Adapter.{adapter_at};
+ghost use Rattle.xosera.specs.HostBytes.{shown, flags_of, high_byte, low_byte};
 ghost use Rattle.xosera.specs.Events.{read, call};
 ghost use Rattle.xosera.specs.Ranges.{in_range};
 ghost use Rattle.xosera.specs.Acts.{given};
@@ -16,8 +16,8 @@ use xosera::{
 
 // The word that a register shows.
 fn shown(s: &[u16], reg: u8) -> u16
-    requires { length s.now ≡ stateWords }
-    ensures { result ≡ shown (stateAt s.now).host reg }
+    requires { length s.now ≡ state_words }
+    ensures { result ≡ shown (state_at s.now).host reg }
 {
     match reg {
         3 => s[RD_XADDR],
@@ -42,8 +42,8 @@ fn flag(set: bool, bit: u8) -> u8
 
 // The flags in the high byte of XM_SYS_CTRL: the blitter's and the beam's.
 fn flags(s: &[u16]) -> u8
-    requires { length s.now ≡ stateWords }
-    ensures { result ≡ flagBits (flags_of (stateAt s.now)) }
+    requires { length s.now ≡ state_words }
+    ensures { result ≡ flag_bits (flags_of (state_at s.now)) }
 {
     let blitter = flag(s[QUEUED] == 1, BLITTER_FULL) + flag(s[ENGINE_RUNNING] == 1, BLITTER_BUSY);
     let beam = flag(s[BEAM_POSITION] < FRAME_BLANK, HBLANK)
@@ -53,9 +53,9 @@ fn flags(s: &[u16]) -> u8
 
 // The byte of an even read.
 fn high_byte(s: &[u16], reg: u8) -> u8
-    requires s_len { length s.now ≡ stateWords }
-    requires s_value { in_range (stateAt s.now) ≡ true }
-    ensures { result ≡ highByte (stateAt s.now).host (flags_of (stateAt s.now)) reg }
+    requires s_len { length s.now ≡ state_words }
+    requires s_value { in_range (state_at s.now) ≡ true }
+    ensures { result ≡ high_byte (state_at s.now).host (flags_of (state_at s.now)) reg }
 {
     match reg {
         0 => flags(s),
@@ -67,9 +67,9 @@ fn high_byte(s: &[u16], reg: u8) -> u8
 
 // The byte of an odd read.
 fn low_byte(s: &[u16], reg: u8) -> u8
-    requires s_len { length s.now ≡ stateWords }
-    requires s_value { in_range (stateAt s.now) ≡ true }
-    ensures { result ≡ lowByte (stateAt s.now).host (stateAt s.now).status reg }
+    requires s_len { length s.now ≡ state_words }
+    requires s_value { in_range (state_at s.now) ≡ true }
+    ensures { result ≡ low_byte (state_at s.now).host (state_at s.now).status reg }
 {
     match reg {
         0 => words::low_byte(s[NIBBLES]),
@@ -81,9 +81,9 @@ fn low_byte(s: &[u16], reg: u8) -> u8
 
 // The byte of a read.
 pub fn byte_read(s: &[u16], reg: u8, odd: bool) -> u8
-    requires s_len { length s.now ≡ stateWords }
-    requires s_value { in_range (stateAt s.now) ≡ true }
-    ensures { (v x : List ℕ) → result ≡ given (adapterAt s.now v x) (call (read reg odd)) }
+    requires s_len { length s.now ≡ state_words }
+    requires s_value { in_range (state_at s.now) ≡ true }
+    ensures { (v x : List ℕ) → result ≡ given (adapter_at s.now v x) (call (read reg odd)) }
 {
     if odd {
         low_byte(s, reg)

@@ -7,25 +7,25 @@ use native.Mathlib.Omega.{arith}
 use native.Mathlib.Nat.{zero-add}
 use borrow.Author.Tests.{lt-ltb}
 use lib.ListN.{length, get_or, set}
-use Rattle.xosera.specs.State.{State, stateWords, wordsFrom, stateBy, word_at, stateAt}
+use Rattle.xosera.specs.State.{State, state_words, words_from, state_by, word_at, state_at}
 use Rattle.xosera.specs.Memories.{stored}
-use Rattle.xosera.specs.Adapter.{adapter, adapterAt, withLatches}
+use Rattle.xosera.specs.Adapter.{adapter, adapter_at, with_latches}
 use Rattle.xosera.specs.Plan.{changed, perform}
-use Rattle.xosera.specs.HostBytes.{latched, writeByte}
+use Rattle.xosera.specs.HostBytes.{latched, write_byte}
 use Rattle.xosera.proofs.Tables.{firsts_same}
 use Rattle.xosera.proofs.WordLaws.{put, ◌takes◌, stored-state}
 
-latch-word : (word : ℕ → ℕ) (r : ℕ) → r < 16 → word r ≡ get_or (wordsFrom 16 0 word) r 0
-latch-word word r h = firsts_same word (λ (k : ℕ). get_or (wordsFrom 16 0 word) k 0) 16 refl r (λ l. absurd (omega arith))
+latch-word : (word : ℕ → ℕ) (r : ℕ) → r < 16 → word r ≡ get_or (words_from 16 0 word) r 0
+latch-word word r h = firsts_same word (λ (k : ℕ). get_or (words_from 16 0 word) k 0) 16 refl r (λ l. absurd (omega arith))
 
-pub latch-at : (ws : List ℕ) (r : ℕ) → r < 16 → word_at ws (0 + r) ≡ get_or (stateAt ws).host.latches r 0
-unfolding stateAt
+pub latch-at : (ws : List ℕ) (r : ℕ) → r < 16 → word_at ws (0 + r) ≡ get_or (state_at ws).host.latches r 0
+unfolding state_at
 latch-at ws r h = ap (word_at ws) (zero-add r) ∙ latch-word (word_at ws) r h
 
 -- A state with another byte in a latch.
-abbrev withLatch : State → ℕ → ℕ → State
-withLatch s r b = record {
-  host = withLatches s.host (set s.host.latches r b);
+abbrev with_latch : State → ℕ → ℕ → State
+with_latch s r b = record {
+  host = with_latches s.host (set s.host.latches r b);
   queued = s.queued;
   status = s.status;
   engine = s.engine;
@@ -34,17 +34,17 @@ withLatch s r b = record {
   beam = s.beam;
 }
 
-latch-put : (word : ℕ → ℕ) (b r : ℕ) → r < 16 → stateBy (put r b word) ≡ withLatch (stateBy word) r b
+latch-put : (word : ℕ → ℕ) (b r : ℕ) → r < 16 → state_by (put r b word) ≡ with_latch (state_by word) r b
 latch-put word b r h =
-    firsts_same (λ (k : ℕ). stateBy (put k b word)) (λ (k : ℕ). withLatch (stateBy word) k b) 16 refl r (λ l. absurd (omega arith))
+    firsts_same (λ (k : ℕ). state_by (put k b word)) (λ (k : ℕ). with_latch (state_by word) k b) 16 refl r (λ l. absurd (omega arith))
 
-module _ (ws : List ℕ) (size : length ws ≡ stateWords) (r b : ℕ) (fits : r < 16) (byte : b < 256) where
-  filled : stateAt (set ws (0 + r) b) ≡ withLatch (stateAt ws) r (b % 256)
-  unfolding stateAt
+module _ (ws : List ℕ) (size : length ws ≡ state_words) (r b : ℕ) (fits : r < 16) (byte : b < 256) where
+  filled : state_at (set ws (0 + r) b) ≡ with_latch (state_at ws) r (b % 256)
+  unfolding state_at
   filled =
       let small : b % 256 ≡ b = omega arith in
-      rw (zero-add, small) (stored-state ws size ((r takes b) ∷ []) (rw (lt-ltb r stateWords (omega arith))) ∙ latch-put (word_at ws) b r fits)
+      rw (zero-add, small) (stored-state ws size ((r takes b) ∷ []) (rw (lt-ltb r state_words (omega arith))) ∙ latch-put (word_at ws) b r fits)
 
-  pub latch-filled : (v x : List ℕ) → adapterAt (set ws (0 + r) b) v x ≡ perform (writeByte (adapterAt ws v x).side r false b) (adapterAt ws v x)
-  unfolding perform changed stored writeByte latched
+  pub latch-filled : (v x : List ℕ) → adapter_at (set ws (0 + r) b) v x ≡ perform (write_byte (adapter_at ws v x).side r false b) (adapter_at ws v x)
+  unfolding perform changed stored write_byte latched
   latch-filled v x = ap (λ (s : State). adapter s v x) filled

@@ -9,28 +9,28 @@ use lib.Dec.{eqb}
 use lib.ListN.{length, get_or}
 use borrow.Author.Tests.{eq-eqb, ne_eqb}
 use Rattle.xosera.specs.State.{is_set}
-use Rattle.xosera.specs.Memories.{isVramLength, stored}
+use Rattle.xosera.specs.Memories.{is_vram_length, stored}
 use Rattle.xosera.specs.Adapter.{Side, Adapter, state_of}
-use Rattle.xosera.specs.Blitter.{fetched, sourced, drawing, drawn, steps, storeNow, nthMask}
+use Rattle.xosera.specs.Blitter.{fetched, sourced, drawing, drawn, steps, store_now, nth_mask}
 use Rattle.xosera.specs.Plan.{Act}
-use Rattle.xosera.specs.XrSpace.{xrWrite}
-use Rattle.xosera.specs.HostBytes.{vramLoad, writeNothing, writes, writeWord, writeByte, readByte}
+use Rattle.xosera.specs.XrSpace.{xr_write}
+use Rattle.xosera.specs.HostBytes.{vram_load, write_nothing, writes, write_word, write_byte, read_byte}
 use Rattle.xosera.specs.TimerTick as TimerTick
-use Rattle.xosera.specs.Copper.{beamStep}
+use Rattle.xosera.specs.Copper.{beam_step}
 use Rattle.xosera.specs.Events.{Call, Event, write, read, tick, beam, line, call, step, run}
-use Rattle.xosera.specs.Ranges.{hostInRange, in_range}
+use Rattle.xosera.specs.Ranges.{host_in_range, in_range}
 use Rattle.calls.specs.Refusals.{Fit, tests, refusal}
-use Rattle.xosera.specs.Acts.{actOf, done, given, wrote}
+use Rattle.xosera.specs.Acts.{act_of, done, given, wrote}
 use Rattle.calls.specs.Calls.{after, answer}
 use Rattle.xosera.proofs.Branches.{cond_yes, cond_no, cond_same, cond_either, parts}
-use Rattle.xosera.proofs.Tables.{◌and◌, getD-each}
+use Rattle.xosera.proofs.Tables.{◌and◌, get_or-each}
 use Rattle.xosera.proofs.MaskLaws.{stored-elsewhere}
 use Rattle.xosera.proofs.EngineLaws.{stored-length, write-mask-small}
 use Rattle.xosera.proofs.StepCases.{stepped-vram, running-mask, idle-mask}
 use Rattle.xosera.proofs.RangeLaws.{in-range-host}
 use Rattle.calls.proofs.RefusalLaws.{lent-fit}
 use Rattle.calls.proofs.FitLaws.{step-accepted, after_run, steps-fit}
-use Rattle.masks.specs.Masks.{WroteNibbles, callMask, Masks}
+use Rattle.masks.specs.Masks.{WroteNibbles, call_mask, Masks}
 use Rattle.masks.proofs.NibbleLaws.{write-mask-bit, stored-nibble}
 
 -- An event that is done answers what it wrote, a refused one 0.
@@ -47,15 +47,15 @@ unfolding answer wrote
 idle-answer a off = rw (idle-mask a off) (cond_same (eqb (refusal a step) 0) 0)
 
 -- A word drawn is a store under the step's mask.
-pub vram-some : (n : ℕ) → isVramLength n ≡ true → 0 < n
-unfolding isVramLength
+pub vram-some : (n : ℕ) → is_vram_length n ≡ true → 0 < n
+unfolding is_vram_length
 vram-some zero h = absurd (true≢false (sym h))
 vram-some (suc n) h = omega arith
 
-pub wrote-nibbles : (a b : Adapter) → 0 < length a.vram → b.vram ≡ stored (storeNow a) a.vram → WroteNibbles a (storeNow a).mask b
+pub wrote-nibbles : (a b : Adapter) → 0 < length a.vram → b.vram ≡ stored (store_now a) a.vram → WroteNibbles a (store_now a).mask b
 unfolding drawing
 wrote-nibbles a b long left =
-    let k = storeNow a in
+    let k = store_now a in
     let v = a.vram in
     let new = stored-nibble k v long in
     record {
@@ -80,15 +80,15 @@ module _ (s : Side) (w : ℕ) where
   abbrev Masked : ℕ → (Side → ℕ → Act) → Type 0
   Masked r f = (f s w).store.mask ≡ cond (eqb r 10 || eqb r 11) s.host.vram.nibbles 0
 
-  word-mask : (r : ℕ) → Masked r (writeWord r)
-  unfolding writeWord xrWrite vramLoad
+  word-mask : (r : ℕ) → Masked r (write_word r)
+  unfolding write_word xr_write vram_load
   word-mask =
-      getD-each Masked writeNothing writes
+      get_or-each Masked write_nothing writes
       (refl and refl and refl and refl and refl and refl and refl and refl and refl and refl and refl and refl and tt)
       (λ r past. rw (ne_eqb r 10 (omega arith), ne_eqb r 11 (omega arith)))
 
-pub call-wrote : (a : Adapter) (c : Call) → wrote a (call c) ≡ callMask a c
-unfolding wrote actOf writeByte readByte vramLoad TimerTick.tick beamStep
+pub call-wrote : (a : Adapter) (c : Call) → wrote a (call c) ≡ call_mask a c
+unfolding wrote act_of write_byte read_byte vram_load TimerTick.tick beam_step
 call-wrote a (write r true b) = word-mask a.side _ r
 call-wrote a (write r false b) = refl
 call-wrote a (read r true) =
@@ -99,12 +99,12 @@ call-wrote a tick = refl
 call-wrote a beam = refl
 call-wrote a line = refl
 
-call-answer : (a : Adapter) (c : Call) → refusal a (call c) ≡ 0 → (answer a (call c)).mask ≡ callMask a c
+call-answer : (a : Adapter) (c : Call) → refusal a (call c) ≡ 0 → (answer a (call c)).mask ≡ call_mask a c
 call-answer a c ok = done-mask a (call c) ok ∙ call-wrote a c
 
 -- A write's mask has four bits, as the nibble mask has.
 pub write-mask-four : (a : Adapter) (r : ℕ) (odd : Bool) (b : ℕ) → in_range (state_of a) ≡ true → wrote a (call (write r odd b)) ≤ 15
-unfolding hostInRange
+unfolding host_in_range
 write-mask-four a r odd b h =
     let nibbles = (simp parts at (in-range-host (state_of a) h)).0.0.0.0 in
     rw (call-wrote a (write r odd b))
@@ -120,22 +120,22 @@ unfolding answer
 done-counts a n ok = cond_yes _ 0 (eq-eqb (refusal a (run n)) 0 ok)
 
 run-answer : (a : Adapter) (n k : ℕ) → (answer a (run n)).value ≡ suc k → (answer a (run n)).mask ≡ (answer (after a (run k)) step).mask
-unfolding wrote nthMask tests
+unfolding wrote nth_mask tests
 run-answer a n k counts = go (ℕ_discrete (refusal a (run n)) 0)
   where
     go : Dec (refusal a (run n) ≡ 0) → (answer a (run n)).mask ≡ (answer (after a (run k)) step).mask
     go (yes ok) =
         let fit : Fit a = lent-fit a (run n) refl ok in
-        done-mask a (run n) ok ∙ ap (λ (m : ℕ). nthMask m a) (sym (done-counts a n ok) ∙ counts)
+        done-mask a (run n) ok ∙ ap (λ (m : ℕ). nth_mask m a) (sym (done-counts a n ok) ∙ counts)
         ∙ rw (after_run a fit k) (sym (done-mask (steps k a) step (step-accepted (steps k a) (steps-fit a fit k))))
     go (no d) = absurd (omega (arith, counts, refused-counts-none a n d))
 
 run-of-none : (a : Adapter) (n : ℕ) → (answer a (run n)).value ≡ 0 → (answer a (run n)).mask ≡ 0
-unfolding wrote nthMask
+unfolding wrote nth_mask
 run-of-none a n counts = go (ℕ_discrete (refusal a (run n)) 0)
   where
     go : Dec (refusal a (run n) ≡ 0) → (answer a (run n)).mask ≡ 0
-    go (yes ok) = done-mask a (run n) ok ∙ ap (λ (m : ℕ). nthMask m a) (sym (done-counts a n ok) ∙ counts)
+    go (yes ok) = done-mask a (run n) ok ∙ ap (λ (m : ℕ). nth_mask m a) (sym (done-counts a n ok) ∙ counts)
     go (no d) = refused-mask a (run n) d
 
 pub masks : Masks

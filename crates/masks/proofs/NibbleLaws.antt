@@ -9,15 +9,15 @@ use lib.Bits.{bit_and, and_shr, and_mod}
 use lib.Dec.{eqb}
 use lib.ListN.{length}
 use Rattle.xosera.specs.declared.Engine.{Engine}
-use Rattle.xosera.specs.Words.{bit, nibble, chosen, merged, isColour, colourMask}
-use Rattle.xosera.specs.Fields.{colourTested, wholeBytes, testColour, firstEdge, lastEdge}
+use Rattle.xosera.specs.Words.{bit, nibble, chosen, merged, is_colour, colour_mask}
+use Rattle.xosera.specs.Fields.{colour_tested, whole_bytes, test_colour, first_edge, last_edge}
 use Rattle.xosera.specs.Memories.{place, word, Store, stored}
-use Rattle.xosera.specs.Blitter.{firstMask, lastWord, lastMask, testMask, writeMask}
+use Rattle.xosera.specs.Blitter.{first_mask, last_word, last_mask, test_mask, write_mask}
 use Rattle.xosera.proofs.Branches.{cond_no, cond_either}
 use Rattle.xosera.proofs.Tables.{◌and◌, below_each}
 use Rattle.xosera.proofs.MaskLaws.{stored-none, stored_there}
 use Rattle.xosera.proofs.EngineLaws.{stored-length}
-use Rattle.masks.specs.Masks.{firstHolds, lastHolds, testHolds}
+use Rattle.masks.specs.Masks.{first_holds, last_holds, test_holds}
 
 -- A bit of two numbers taken together is set where both have it.
 both-set : (x y : ℕ) → x < 2 → y < 2 → eqb (bit_and x y) 1 ≡ eqb x 1 && eqb y 1
@@ -64,43 +64,43 @@ clear-is-1 : (b : Bool) → eqb (cond b 0 1) 1 ≡ not b
 clear-is-1 true = refl
 clear-is-1 false = refl
 
-colour-bit : (bytes : Bool) (t s k : ℕ) → k < 4 → bit k (colourMask bytes t s) ≡ not (isColour bytes t s k)
-unfolding colourMask bit
+colour-bit : (bytes : Bool) (t s k : ℕ) → k < 4 → bit k (colour_mask bytes t s) ≡ not (is_colour bytes t s k)
+unfolding colour_mask bit
 colour-bit bytes t s =
-    at-four (λ (k : ℕ). bit k (colourMask bytes t s) ≡ not (isColour bytes t s k))
+    at-four (λ (k : ℕ). bit k (colour_mask bytes t s) ≡ not (is_colour bytes t s k))
     (digit 0 (rw sum (omega (arith, small 0)))) (digit 1 (rw sum (omega (arith, small 0, small 1))))
     (digit 2 (rw sum (omega (arith, small 0, small 1, small 2)))) (digit 3 (rw sum (omega (arith, small 0, small 1, small 2, small 3))))
   where
     one : ℕ → ℕ
-    one k = cond (isColour bytes t s k) 0 1
+    one k = cond (is_colour bytes t s k) 0 1
 
     small : (k : ℕ) → one k < 2
-    small k = cond_either (λ (n : ℕ). n < 2) (isColour bytes t s k) 0 1 (omega arith) (omega arith)
+    small k = cond_either (λ (n : ℕ). n < 2) (is_colour bytes t s k) 0 1 (omega arith) (omega arith)
 
-    sum : colourMask bytes t s ≡ ((one 3 * 2 + one 2) * 2 + one 1) * 2 + one 0
+    sum : colour_mask bytes t s ≡ ((one 3 * 2 + one 2) * 2 + one 1) * 2 + one 0
     sum =
-        rw (scaled (isColour bytes t s 3) 8, scaled (isColour bytes t s 2) 4, scaled (isColour bytes t s 1) 2) (omega arith)
+        rw (scaled (is_colour bytes t s 3) 8, scaled (is_colour bytes t s 2) 4, scaled (is_colour bytes t s 1) 2) (omega arith)
 
-    digit : (k : ℕ) → colourMask bytes t s / 2 ^ k % 2 ≡ one k → bit k (colourMask bytes t s) ≡ not (isColour bytes t s k)
-    digit k e = ap (λ (n : ℕ). eqb n 1) e ∙ clear-is-1 (isColour bytes t s k)
+    digit : (k : ℕ) → colour_mask bytes t s / 2 ^ k % 2 ≡ one k → bit k (colour_mask bytes t s) ≡ not (is_colour bytes t s k)
+    digit k e = ap (λ (n : ℕ). eqb n 1) e ∙ clear-is-1 (is_colour bytes t s k)
 
 -- Each of the three masks has the nibbles that it does not hold back, and the write mask those that none does.
 module _ (e : Engine) (k : ℕ) (h : k < 4) where
-  pub first-mask-bit : bit k (firstMask e) ≡ not (firstHolds e k)
-  unfolding firstMask
-  first-mask-bit = edge-bit (eqb e.word 0) (firstEdge e.regs.shift) k h
+  pub first-mask-bit : bit k (first_mask e) ≡ not (first_holds e k)
+  unfolding first_mask
+  first-mask-bit = edge-bit (eqb e.word 0) (first_edge e.regs.shift) k h
 
-  pub last-mask-bit : bit k (lastMask e) ≡ not (lastHolds e k)
-  unfolding lastMask
-  last-mask-bit = edge-bit (lastWord e) (lastEdge e.regs.shift) k h
+  pub last-mask-bit : bit k (last_mask e) ≡ not (last_holds e k)
+  unfolding last_mask
+  last-mask-bit = edge-bit (last_word e) (last_edge e.regs.shift) k h
 
-  pub test-mask-bit : (s : ℕ) → bit k (testMask e s) ≡ not (testHolds e s k)
-  unfolding testMask bit
-  test-mask-bit s = go (colourTested e.regs.ctrl)
+  pub test-mask-bit : (s : ℕ) → bit k (test_mask e s) ≡ not (test_holds e s k)
+  unfolding test_mask bit
+  test-mask-bit s = go (colour_tested e.regs.ctrl)
     where
-      go : (tested : Bool) → bit k (cond tested (colourMask (wholeBytes e.regs.ctrl) (testColour e.regs.ctrl) s) 15)
-          ≡ not (tested && isColour (wholeBytes e.regs.ctrl) (testColour e.regs.ctrl) s k)
-      go true = colour-bit (wholeBytes e.regs.ctrl) (testColour e.regs.ctrl) s k h
+      go : (tested : Bool) → bit k (cond tested (colour_mask (whole_bytes e.regs.ctrl) (test_colour e.regs.ctrl) s) 15)
+          ≡ not (tested && is_colour (whole_bytes e.regs.ctrl) (test_colour e.regs.ctrl) s k)
+      go true = colour-bit (whole_bytes e.regs.ctrl) (test_colour e.regs.ctrl) s k h
       go false = at-four (λ (j : ℕ). bit j 15 ≡ true) refl refl refl refl k h
 
 none-holds : (f l t : Bool) → (not f && not l) && not t ≡ not (f || l || t)
@@ -108,11 +108,11 @@ none-holds true l t = refl
 none-holds false true t = refl
 none-holds false false t = refl
 
-pub write-mask-bit : (e : Engine) (s k : ℕ) → k < 4 → bit k (writeMask e s) ≡ not (firstHolds e k || lastHolds e k || testHolds e s k)
-unfolding writeMask
+pub write-mask-bit : (e : Engine) (s k : ℕ) → k < 4 → bit k (write_mask e s) ≡ not (first_holds e k || last_holds e k || test_holds e s k)
+unfolding write_mask
 write-mask-bit e s k h =
-    and-bit k (bit_and (firstMask e) (lastMask e)) (testMask e s) ∙ ap (λ (b : Bool). b && bit k (testMask e s)) (and-bit k (firstMask e) (lastMask e))
-    ∙ rw (first-mask-bit e k h, last-mask-bit e k h, test-mask-bit e k h s) (none-holds (firstHolds e k) (lastHolds e k) (testHolds e s k))
+    and-bit k (bit_and (first_mask e) (last_mask e)) (test_mask e s) ∙ ap (λ (b : Bool). b && bit k (test_mask e s)) (and-bit k (first_mask e) (last_mask e))
+    ∙ rw (first-mask-bit e k h, last-mask-bit e k h, test-mask-bit e k h s) (none-holds (first_holds e k) (last_holds e k) (test_holds e s k))
 
 -- Nibble k of a word written under a mask is the new one where bit k is set and the old one where it is clear.
 pub nibble-merged : (m old new k : ℕ) → k < 4 → nibble k (merged m old new) ≡ cond (bit k m) (nibble k new) (nibble k old)

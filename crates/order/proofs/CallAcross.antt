@@ -9,18 +9,18 @@ use borrow.Author.Tests.{eq-eqb}
 use Rattle.xosera.specs.State.{is_set}
 use Rattle.xosera.specs.Memories.{place, word, Store, stored}
 use Rattle.xosera.specs.Adapter.{Side, Adapter, state_of}
-use Rattle.xosera.specs.Blitter.{blitWords, engineLeft, wordsLeft}
-use Rattle.xosera.specs.Plan.{Act, vramLoaded, carriedOut, perform}
+use Rattle.xosera.specs.Blitter.{blit_words, engine_left, words_left}
+use Rattle.xosera.specs.Plan.{Act, vram_loaded, carried_out, perform}
 use Rattle.xosera.specs.Events.{Call, call}
 use Rattle.calls.specs.Refusals.{Fit, refusal}
-use Rattle.xosera.specs.Acts.{actOf, done}
+use Rattle.xosera.specs.Acts.{act_of, done}
 use Rattle.calls.specs.Calls.{after}
 use Rattle.xosera.proofs.Branches.{cond_yes, cond_no, cond_either}
 use Rattle.xosera.proofs.RangeLaws.{in-range-copper}
 use Rattle.xosera.proofs.BeamLaws.{disabled-arrives-stopped}
 use Rattle.calls.proofs.AfterLaws.{after-fit}
-use Rattle.order.specs.Order.{accepted, blitWrites}
-use Rattle.order.specs.Work.{callTries}
+use Rattle.order.specs.Order.{accepted, blit_writes}
+use Rattle.order.specs.Work.{call_tries}
 use Rattle.order.proofs.StoreLaws.{stored-place}
 use Rattle.order.proofs.Footprint.{steps-word}
 use Rattle.order.proofs.StoreAcross.{Beside, waiting-same, Clear, steps-beside, SameWords, same-words}
@@ -31,26 +31,26 @@ use Rattle.order.proofs.Finish.{finished, Finishes, OnCourse}
 use Rattle.order.proofs.CallsApart.{Apart}
 
 -- A store beside the blit leaves as many words.
-beside-left : (k : Store) (a b : Adapter) → Beside k a b → wordsLeft b ≡ wordsLeft a
-unfolding wordsLeft
+beside-left : (k : Store) (a b : Adapter) → Beside k a b → words_left b ≡ words_left a
+unfolding words_left
 beside-left k a b h =
     rw (h.engine, h.queued)
-    (ap (λ (n : ℕ). engineLeft a.engine + n) (waiting-same blitWords 0 (is_set a.queued) a.side.blit b.side.blit h.waiting))
+    (ap (λ (n : ℕ). engine_left a.engine + n) (waiting-same blit_words 0 (is_set a.queued) a.side.blit b.side.blit h.waiting))
 
 -- The address that an act leaves in 7.
-abbrev readAddress : Act → ℕ
-readAddress p = p.side.host.vram.rdaddr.0
+abbrev read_address : Act → ℕ
+read_address p = p.side.host.vram.rdaddr.0
 
 -- What pending work asks of an act: to store to no word that it reads or writes, load no word that it writes, and leave the
 -- registers of a queued blit alone.
 record Aside (p : Act) (a : Adapter) : Type 0 where
-  clear : Clear (wordsLeft a) p.store a
-  unwritten : p.load ≡ true → blitWrites (wordsLeft a) a (place a.vram (readAddress p)) ≡ false
+  clear : Clear (words_left a) p.store a
+  unwritten : p.load ≡ true → blit_writes (words_left a) a (place a.vram (read_address p)) ≡ false
   waits : is_set a.queued ≡ true → p.side.blit ≡ a.side.blit
 
 module _ (p : Act) (a : Adapter) (aside : Aside p a) where
-  carried-beside : Beside p.store a (carriedOut p a)
-  unfolding vramLoaded
+  carried-beside : Beside p.store a (carried_out p a)
+  unfolding vram_loaded
   carried-beside = record {
     engine = refl;
     queued = refl;
@@ -58,39 +58,39 @@ module _ (p : Act) (a : Adapter) (aside : Aside p a) where
     vram = refl;
   }
 
-  carried-left : wordsLeft (carriedOut p a) ≡ wordsLeft a
-  carried-left = beside-left p.store a (carriedOut p a) carried-beside
+  carried-left : words_left (carried_out p a) ≡ words_left a
+  carried-left = beside-left p.store a (carried_out p a) carried-beside
 
-  carried-words : SameWords (wordsLeft a) a (carriedOut p a)
-  carried-words = same-words (wordsLeft a) p.store a (carriedOut p a) carried-beside aside.clear
+  carried-words : SameWords (words_left a) a (carried_out p a)
+  carried-words = same-words (words_left a) p.store a (carried_out p a) carried-beside aside.clear
 
   -- The work finished after the store is the store made after the work.
-  carried-finished : (finished (carriedOut p a)).vram ≡ stored p.store (finished a).vram
-  carried-finished = rw carried-left (steps-beside (wordsLeft a) p.store a (carriedOut p a) carried-beside aside.clear).vram
+  carried-finished : (finished (carried_out p a)).vram ≡ stored p.store (finished a).vram
+  carried-finished = rw carried-left (steps-beside (words_left a) p.store a (carried_out p a) carried-beside aside.clear).vram
 
   -- The word that is loaded is the same before and after the work.
-  loads-alike : p.load ≡ true → word (finished (carriedOut p a)).vram (readAddress p) ≡ word (carriedOut p a).vram (readAddress p)
+  loads-alike : p.load ≡ true → word (finished (carried_out p a)).vram (read_address p) ≡ word (carried_out p a).vram (read_address p)
   loads-alike load =
-      let here : place (carriedOut p a).vram (readAddress p) ≡ place a.vram (readAddress p) = stored-place p.store a.vram (readAddress p) in
+      let here : place (carried_out p a).vram (read_address p) ≡ place a.vram (read_address p) = stored-place p.store a.vram (read_address p) in
       rw carried-left
-      (steps-word (wordsLeft a) (carriedOut p a) (readAddress p)
-      (rw here (carried-words.writes (place a.vram (readAddress p)) ∙ aside.unwritten load)))
+      (steps-word (words_left a) (carried_out p a) (read_address p)
+      (rw here (carried-words.writes (place a.vram (read_address p)) ∙ aside.unwritten load)))
 
   module _ (r : Adapter) (vram : r.vram ≡ (finished a).vram) where
-    vram-alike : (carriedOut p r).vram ≡ (finished (carriedOut p a)).vram
+    vram-alike : (carried_out p r).vram ≡ (finished (carried_out p a)).vram
     vram-alike = ap (stored p.store) vram ∙ sym carried-finished
 
-    side-alike : (carriedOut p r).side ≡ (carriedOut p a).side
-    unfolding vramLoaded
+    side-alike : (carried_out p r).side ≡ (carried_out p a).side
+    unfolding vram_loaded
     side-alike = go p.load refl
       where
         go : (b : Bool) → p.load ≡ b →
-            cond b (vramLoaded p.side (carriedOut p r).vram) p.side ≡ cond b (vramLoaded p.side (carriedOut p a).vram) p.side
-        go true load = rw (ap (λ (v : List ℕ). word v (readAddress p)) vram-alike ∙ loads-alike load)
+            cond b (vram_loaded p.side (carried_out p r).vram) p.side ≡ cond b (vram_loaded p.side (carried_out p a).vram) p.side
+        go true load = rw (ap (λ (v : List ℕ). word v (read_address p)) vram-alike ∙ loads-alike load)
         go false none = refl
 
-carried-finishes : {full : Bool} (p : Act) (a r : Adapter) → Aside p a → Finishes full a r → Fit (carriedOut p a) → Fit (carriedOut p r) →
-    Finishes full (carriedOut p a) (carriedOut p r)
+carried-finishes : {full : Bool} (p : Act) (a r : Adapter) → Aside p a → Finishes full a r → Fit (carried_out p a) → Fit (carried_out p r) →
+    Finishes full (carried_out p a) (carried_out p r)
 carried-finishes p a r aside f fit fit-ref = record {
   fit = fit;
   fit-ref = fit-ref;
@@ -103,7 +103,7 @@ carried-finishes p a r aside f fit fit-ref = record {
 }
 
 -- A call that is accepted and starts nothing, and one that is refused.
-after-carried : (a : Adapter) (c : Call) → accepted a (call c) ≡ true → (actOf a c).start ≡ false → after a (call c) ≡ carriedOut (actOf a c) a
+after-carried : (a : Adapter) (c : Call) → accepted a (call c) ≡ true → (act_of a c).start ≡ false → after a (call c) ≡ carried_out (act_of a c) a
 unfolding accepted after done perform
 after-carried a c ok starts = cond_yes _ a ok ∙ cond_no _ _ starts
 
@@ -118,10 +118,10 @@ module _ {full : Bool} {reads writes : ℕ → Bool} {n : ℕ} (a r : Adapter) (
       let f = course.finishes in
       disabled-arrives-stopped a.side apart.disabled (in-range-copper (state_of a) f.fit.state)
 
-  tries-none : callTries a c ≡ false
+  tries-none : call_tries a c ≡ false
   tries-none = go full refl
     where
-      go : (b : Bool) → full ≡ b → callTries a c ≡ false
+      go : (b : Bool) → full ≡ b → call_tries a c ≡ false
       go true e = apart.patient e
       go false e = unqueued-tries-none a c (course.finishes.alone e)
 
@@ -136,12 +136,12 @@ module _ {full : Bool} {reads writes : ℕ → Bool} {n : ℕ} (a r : Adapter) (
   accepted-alike = ap (λ (k : ℕ). eqb k 0) call-refused-alike
 
   module _ (ok : accepted a (call c) ≡ true) where
-    starts_none : (actOf a c).start ≡ false
+    starts_none : (act_of a c).start ≡ false
     starts_none = sym (rw ok at (call-starts-exactly a c still)) ∙ apart.starts_none
 
-    call-aside : Aside (actOf a c) a
+    call-aside : Aside (act_of a c) a
     call-aside =
-        let at : ℕ = place a.vram (readAddress (actOf a c)) in
+        let at : ℕ = place a.vram (read_address (act_of a c)) in
         record {
           clear = record {
             unread = λ w t. course.within.unread w (apart.writes-none-read w (rw ok at (call-writes-exactly a c w) ∙ t));
@@ -151,19 +151,19 @@ module _ {full : Bool} {reads writes : ℕ → Bool} {n : ℕ} (a r : Adapter) (
           waits = call-waits a c still tries-none;
         }
 
-    after-adapter : after a (call c) ≡ carriedOut (actOf a c) a
+    after-adapter : after a (call c) ≡ carried_out (act_of a c) a
     after-adapter = after-carried a c ok starts_none
 
-    after-reference : after r (call c) ≡ carriedOut (actOf a c) r
+    after-reference : after r (call c) ≡ carried_out (act_of a c) r
     after-reference =
-        subst (λ (p : Act). p.start ≡ false → after r (call c) ≡ carriedOut p r) (act-alike a r c course.finishes.side still)
+        subst (λ (p : Act). p.start ≡ false → after r (call c) ≡ carried_out p r) (act-alike a r c course.finishes.side still)
         (after-carried r c (accepted-alike ∙ ok)) starts_none
 
-    carried-on-course : OnCourse full reads writes n (carriedOut (actOf a c) a) (carriedOut (actOf a c) r)
+    carried-on-course : OnCourse full reads writes n (carried_out (act_of a c) a) (carried_out (act_of a c) r)
     carried-on-course =
-        let p : Act = actOf a c in
-        let fit : Fit (carriedOut p a) = subst Fit after-adapter (after-fit a (call c) course.finishes.fit) in
-        let fit-ref : Fit (carriedOut p r) = subst Fit after-reference (after-fit r (call c) course.finishes.fit-ref) in
+        let p : Act = act_of a c in
+        let fit : Fit (carried_out p a) = subst Fit after-adapter (after-fit a (call c) course.finishes.fit) in
+        let fit-ref : Fit (carried_out p r) = subst Fit after-reference (after-fit r (call c) course.finishes.fit-ref) in
         record {
           finishes = carried-finishes p a r call-aside course.finishes fit fit-ref;
           within = record {

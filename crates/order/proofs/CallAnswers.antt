@@ -7,20 +7,20 @@ use lib.Dec.{eqb}
 use lib.ListN.{get_or, get_or-map}
 use Rattle.xosera.specs.declared.Engine.{Engine}
 use Rattle.xosera.specs.State.{Host, is_set}
-use Rattle.xosera.specs.Words.{withoutBit}
-use Rattle.xosera.specs.Fields.{Flags, flagBits}
+use Rattle.xosera.specs.Words.{without_bit}
+use Rattle.xosera.specs.Fields.{Flags, flag_bits}
 use Rattle.xosera.specs.Adapter.{Side, Adapter, state_of}
-use Rattle.xosera.specs.HostBytes.{shown, flags_of, highByte, lowByte}
-use Rattle.xosera.specs.Copper.{beamStep}
+use Rattle.xosera.specs.HostBytes.{shown, flags_of, high_byte, low_byte}
+use Rattle.xosera.specs.Copper.{beam_step}
 use Rattle.xosera.specs.Events.{Call, write, read, tick, beam, line, call}
 use Rattle.calls.specs.Refusals.{refusal}
-use Rattle.xosera.specs.Acts.{actOf, given, wrote}
+use Rattle.xosera.specs.Acts.{act_of, given, wrote}
 use Rattle.calls.specs.Calls.{answer}
 use Rattle.xosera.proofs.Branches.{cond_same}
-use Rattle.xosera.proofs.Tables.{Each, ◌and◌, getD-each}
+use Rattle.xosera.proofs.Tables.{Each, ◌and◌, get_or-each}
 use Rattle.xosera.proofs.RangeLaws.{in-range-status}
 use Rattle.order.specs.Order.{agreed}
-use Rattle.order.specs.Work.{withoutFull, agreedWork}
+use Rattle.order.specs.Work.{without_full, agreed_work}
 use Rattle.order.proofs.Status.{without-alike}
 use Rattle.order.proofs.Finish.{Finishes}
 
@@ -29,21 +29,21 @@ shown-alike : {A : Type 0} (see : ℕ → ℕ → ℕ) (else : ℕ) (l : List (A
     see r (get_or (map (λ (f : A → ℕ). f x) l) r else) ≡ see r (get_or (map (λ (f : A → ℕ). f y) l) r else)
 shown-alike {A} see else l x y each r =
     ap (see r) (get_or-map (λ (f : A → ℕ). f x) l r (λ _. else))
-    ∙ getD-each (λ k f. see k (f x) ≡ see k (f y)) (λ _. else) l each (λ _ _. refl) r
+    ∙ get_or-each (λ k f. see k (f x) ≡ see k (f y)) (λ _. else) l each (λ _ _. refl) r
     ∙ sym (ap (see r) (get_or-map (λ (f : A → ℕ). f y) l r (λ _. else)))
 
 -- Odd reads show the status at 1 alone, so they agree but for bit 6 there.
-low_alike : (full : Bool) (h : Host) (s t n : ℕ) → withoutBit 6 s ≡ withoutBit 6 t →
-    agreedWork full (read n true) (lowByte h s n) ≡ agreedWork full (read n true) (lowByte h t n)
-unfolding agreedWork withoutFull agreed lowByte
+low_alike : (full : Bool) (h : Host) (s t n : ℕ) → without_bit 6 s ≡ without_bit 6 t →
+    agreed_work full (read n true) (low_byte h s n) ≡ agreed_work full (read n true) (low_byte h t n)
+unfolding agreed_work without_full agreed low_byte
 low_alike full h s t n e =
-    shown-alike (λ r. agreedWork full (read r true)) (shown h n % 256) ((λ _. h.vram.nibbles) ∷ (λ status. status) ∷ (λ _. h.timer.saved) ∷ []) s t
+    shown-alike (λ r. agreed_work full (read r true)) (shown h n % 256) ((λ _. h.vram.nibbles) ∷ (λ status. status) ∷ (λ _. h.timer.saved) ∷ []) s t
     (refl and simp cond_same e and refl and tt) n
 
 -- Even reads show whether the blitter is full and busy at 0 alone; it is not full where no blit was queued at first. The beam is
 -- where it is.
-abbrev idleFlags : Flags → Flags
-idleFlags f = record { full = false; busy = false; hblank = f.hblank; vblank = f.vblank }
+abbrev idle_flags : Flags → Flags
+idle_flags f = record { full = false; busy = false; hblank = f.hblank; vblank = f.vblank }
 
 each-blank : (P : Bool → Bool → Type 0) → P true true → P true false → P false true → P false false → (h v : Bool) → P h v
 each-blank P a b c d true true = a
@@ -53,11 +53,11 @@ each-blank P a b c d false false = d
 
 abbrev FlagsAlike : Bool → Bool → Bool → Bool → Bool → Type 0
 FlagsAlike full queued busy h v =
-    agreedWork full (read 0 false) (flagBits (record { full = false; busy = false; hblank = h; vblank = v })) ≡
-    agreedWork full (read 0 false) (flagBits (record { full = queued; busy = busy; hblank = h; vblank = v }))
+    agreed_work full (read 0 false) (flag_bits (record { full = false; busy = false; hblank = h; vblank = v })) ≡
+    agreed_work full (read 0 false) (flag_bits (record { full = queued; busy = busy; hblank = h; vblank = v }))
 
 flags-alike : (full queued busy h v : Bool) → (full ≡ false → queued ≡ false) → FlagsAlike full queued busy h v
-unfolding agreedWork withoutFull agreed flagBits withoutBit
+unfolding agreed_work without_full agreed flag_bits without_bit
 flags-alike true true true h v alone = each-blank (FlagsAlike true true true) refl refl refl refl h v
 flags-alike true true false h v alone = each-blank (FlagsAlike true true false) refl refl refl refl h v
 flags-alike true false true h v alone = each-blank (FlagsAlike true false true) refl refl refl refl h v
@@ -67,10 +67,10 @@ flags-alike false false false h v alone = each-blank (FlagsAlike false false fal
 flags-alike false true busy h v alone = absurd (true≢false (alone refl))
 
 high-alike : (full : Bool) (h : Host) (f : Flags) (n : ℕ) → (full ≡ false → f.full ≡ false) →
-    agreedWork full (read n false) (highByte h (idleFlags f) n) ≡ agreedWork full (read n false) (highByte h f n)
-unfolding highByte
+    agreed_work full (read n false) (high_byte h (idle_flags f) n) ≡ agreed_work full (read n false) (high_byte h f n)
+unfolding high_byte
 high-alike full h f n alone =
-    shown-alike (λ r. agreedWork full (read r false)) (shown h n / 256) (flagBits ∷ (λ _. h.intmask) ∷ (λ _. h.timer.count / 256) ∷ []) (idleFlags f) f
+    shown-alike (λ r. agreed_work full (read r false)) (shown h n / 256) (flag_bits ∷ (λ _. h.intmask) ∷ (λ _. h.timer.count / 256) ∷ []) (idle_flags f) f
     (flags-alike full f.full f.busy f.hblank f.vblank alone and refl and refl and tt) n
 
 module _ {full : Bool} (a r : Adapter) (f : Finishes full a r) where
@@ -83,12 +83,12 @@ module _ {full : Bool} (a r : Adapter) (f : Finishes full a r) where
   reference-off : is_set r.engine.running ≡ false
   reference-off = ap (λ (e : Engine). is_set e.running) f.engine
 
-  pub status-alike : withoutBit 6 r.status ≡ withoutBit 6 a.status
+  pub status-alike : without_bit 6 r.status ≡ without_bit 6 a.status
   status-alike =
       without-alike r.status a.status (in-range-status (state_of r) f.fit-ref.state) (in-range-status (state_of a) f.fit.state) f.status
 
-  given-alike : (c : Call) → agreedWork full c (given r (call c)) ≡ agreedWork full c (given a (call c))
-  unfolding given agreedWork agreed
+  given-alike : (c : Call) → agreed_work full c (given r (call c)) ≡ agreed_work full c (given a (call c))
+  unfolding given agreed_work agreed
   given-alike (write n odd b) = refl
   given-alike (read n true) = rw host-alike (low_alike full a.side.host r.status a.status n status-alike)
   given-alike (read n false) =
@@ -98,17 +98,17 @@ module _ {full : Bool} (a r : Adapter) (f : Finishes full a r) where
   given-alike line = refl
 
   pub value-alike : (c : Call) → refusal r (call c) ≡ refusal a (call c) →
-      agreedWork full c (answer r (call c)).value ≡ agreedWork full c (answer a (call c)).value
+      agreed_work full c (answer r (call c)).value ≡ agreed_work full c (answer a (call c)).value
   unfolding answer
   value-alike c e = rw e (go (eqb (refusal a (call c)) 0))
     where
-      go : (b : Bool) → agreedWork full c (cond b (given r (call c)) 0) ≡ agreedWork full c (cond b (given a (call c)) 0)
+      go : (b : Bool) → agreed_work full c (cond b (given r (call c)) 0) ≡ agreed_work full c (cond b (given a (call c)) 0)
       go true = given-alike c
       go false = refl
 
   -- A call's mask is its own store's, and the store is the same; a beam step has none.
   wrote-alike : (c : Call) → wrote r (call c) ≡ wrote a (call c)
-  unfolding wrote actOf beamStep
+  unfolding wrote act_of beam_step
   wrote-alike (write n odd b) = rw f.side
   wrote-alike (read n odd) = rw f.side
   wrote-alike tick = rw f.side

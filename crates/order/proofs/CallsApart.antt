@@ -3,13 +3,13 @@ use mathlib.Core.Path.{◌≡◌}
 use mathlib.Core.Bool.{Bool, true, false}
 use mathlib.Core.List.{List, [], ◌∷◌}
 use Prim.Native.Nat.{ℕ}
-use Rattle.xosera.specs.Fields.{copperEnabled}
+use Rattle.xosera.specs.Fields.{copper_enabled}
 use Rattle.xosera.specs.Adapter.{Adapter}
 use Rattle.xosera.specs.Events.{Call, Event, call, step, run}
 use Rattle.calls.specs.Calls.{after}
-use Rattle.order.specs.Order.{callStarts, callWrites, callLoads, blitReads, blitWrites, AllCalls, Throughout, Keeps}
-use Rattle.order.specs.Order.{startsNone, writesNoneRead, writesNoneWritten, loadsNoneWritten, copperDisabled}
-use Rattle.order.specs.Work.{callTries}
+use Rattle.order.specs.Order.{call_starts, call_writes, call_loads, blit_reads, blit_writes, AllCalls, Throughout, Keeps}
+use Rattle.order.specs.Order.{starts_none, writes_none_read, writes_none_written, loads_none_written, copper_disabled}
+use Rattle.order.specs.Work.{call_tries}
 
 module _ (P Q : Adapter → Call → Type 0) where
   all-zip : (es : List Event) (a : Adapter) → AllCalls P a es → AllCalls Q a es → AllCalls (λ b c. P b c × Q b c) a es
@@ -33,19 +33,19 @@ throughout-calls P (run n ∷ es) a p = throughout-calls P es (after a (run n)) 
 
 -- A call that tries to write no blitter register while a blit is queued. `full` says whether one may be.
 abbrev pub Patient : Bool → Adapter → Call → Type 0
-Patient full a c = full ≡ true → callTries a c ≡ false
+Patient full a c = full ≡ true → call_tries a c ≡ false
 
 -- A call beside pending work that reads and writes the given words.
 pub record Apart (full : Bool) (reads writes : ℕ → Bool) (a : Adapter) (c : Call) : Type 0 where
-  pub starts_none : callStarts a c ≡ false
-  pub writes-none-read : (w : ℕ) → callWrites a c w ≡ true → reads w ≡ false
-  pub writes-none-written : (w : ℕ) → callWrites a c w ≡ true → writes w ≡ false
-  pub loads-none-written : (w : ℕ) → callLoads a c w ≡ true → writes w ≡ false
-  pub disabled : copperEnabled a.side.video.coppctrl ≡ false
+  pub starts_none : call_starts a c ≡ false
+  pub writes-none-read : (w : ℕ) → call_writes a c w ≡ true → reads w ≡ false
+  pub writes-none-written : (w : ℕ) → call_writes a c w ≡ true → writes w ≡ false
+  pub loads-none-written : (w : ℕ) → call_loads a c w ≡ true → writes w ≡ false
+  pub disabled : copper_enabled a.side.video.coppctrl ≡ false
   pub patient : Patient full a c
 
 pub keeps-apart : (full : Bool) (n : ℕ) (s : Adapter) (es : List Event) → Keeps n s es → AllCalls (Patient full) s es →
-    AllCalls (Apart full (blitReads n s) (blitWrites n s)) s es
+    AllCalls (Apart full (blit_reads n s) (blit_writes n s)) s es
 keeps-apart full n s es keeps patient =
     all_map _ _ (λ b c k. record {
       starts_none = k.0;
@@ -56,8 +56,8 @@ keeps-apart full n s es keeps patient =
       patient = k.1.1.1.1.1;
     })
     es s
-    (all-zip _ _ es s (keeps startsNone)
-    (all-zip _ _ es s (keeps writesNoneRead)
-    (all-zip _ _ es s (keeps writesNoneWritten)
-    (all-zip _ _ es s (keeps loadsNoneWritten)
-    (all-zip _ _ es s (throughout-calls _ es s (keeps copperDisabled)) patient)))))
+    (all-zip _ _ es s (keeps starts_none)
+    (all-zip _ _ es s (keeps writes_none_read)
+    (all-zip _ _ es s (keeps writes_none_written)
+    (all-zip _ _ es s (keeps loads_none_written)
+    (all-zip _ _ es s (throughout-calls _ es s (keeps copper_disabled)) patient)))))

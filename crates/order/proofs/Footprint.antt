@@ -5,16 +5,16 @@ use Prim.Native.Nat.{ℕ, zero, suc, ◌%◌}
 use Rattle.xosera.specs.State.{is_set}
 use Rattle.xosera.specs.Memories.{place, word}
 use Rattle.xosera.specs.Adapter.{Adapter}
-use Rattle.xosera.specs.Blitter.{drawing, drawn, stepped, steps, storeNow}
+use Rattle.xosera.specs.Blitter.{drawing, drawn, stepped, steps, store_now}
 use Rattle.xosera.proofs.Branches.{or-eq-false-iff}
 use Rattle.xosera.proofs.StepCases.{step-cases, running-mask}
 use Rattle.xosera.proofs.RangeLaws.{stepped-vram-length}
-use Rattle.order.specs.Order.{writesNow, blitWrites}
+use Rattle.order.specs.Order.{writes_now, blit_writes}
 use Rattle.order.proofs.StoreLaws.{touches, stored-word}
 
 -- The word that a running engine's next step writes.
-pub running-writes : (a : Adapter) (w : ℕ) → is_set a.engine.running ≡ true → writesNow a w ≡ touches (storeNow a) a.vram w
-unfolding writesNow touches drawing
+pub running-writes : (a : Adapter) (w : ℕ) → is_set a.engine.running ≡ true → writes_now a w ≡ touches (store_now a) a.vram w
+unfolding writes_now touches drawing
 running-writes a w on = rw (running-mask a on)
 
 -- Every address keeps its place.
@@ -23,15 +23,15 @@ unfolding place
 stepped-place a x = ap (λ (n : ℕ). x % n) (stepped-vram-length a)
 
 -- A word that is not written stays.
-stepped-word : (a : Adapter) (x : ℕ) → writesNow a (place a.vram x) ≡ false → word (stepped a).vram x ≡ word a.vram x
+stepped-word : (a : Adapter) (x : ℕ) → writes_now a (place a.vram x) ≡ false → word (stepped a).vram x ≡ word a.vram x
 unfolding drawn
 stepped-word a x h = step-cases (λ (b : Adapter). word b.vram x ≡ word a.vram x) a (λ _. refl) (λ on _. stays on) (λ on _. stays on)
   where
     stays : is_set a.engine.running ≡ true → word (drawn a.engine a.vram) x ≡ word a.vram x
-    stays on = stored-word (storeNow a) a.vram x (sym (running-writes a (place a.vram x) on) ∙ h)
+    stays on = stored-word (store_now a) a.vram x (sym (running-writes a (place a.vram x) on) ∙ h)
 
-pub steps-word : (n : ℕ) (a : Adapter) (x : ℕ) → blitWrites n a (place a.vram x) ≡ false → word (steps n a).vram x ≡ word a.vram x
-unfolding steps blitWrites
+pub steps-word : (n : ℕ) (a : Adapter) (x : ℕ) → blit_writes n a (place a.vram x) ≡ false → word (steps n a).vram x ≡ word a.vram x
+unfolding steps blit_writes
 steps-word zero a x h = refl
 steps-word (suc n) a x h =
     let k = simp or-eq-false-iff at h in

@@ -1,8 +1,8 @@
 -- The witnesses meet the conditions: every test passes by computation.
 use mathlib.Core.Path.{refl}
-use Rattle.xosera.specs.Blitter.{wordsLeft}
+use Rattle.xosera.specs.Blitter.{words_left}
 use Rattle.calls.specs.Sequences.{words_of}
-use Rattle.order.specs.Witness.{begun, between, Witness, queuedUp, QueuedWitness}
+use Rattle.order.specs.Witness.{begun, between, Witness, queued_up, QueuedWitness}
 use Rattle.order.proofs.ComputingOrder.{computing-order}
 use Rattle.order.proofs.ConditionTests.{keeps-tested, patient-tested}
 
@@ -21,7 +21,7 @@ unfolding computing-order
 queued-witness = record {
   fit = record { vram = refl; xr = refl; state = refl };
   full = refl;
-  keeps = keeps-tested (wordsLeft queuedUp) queuedUp between refl;
-  patient = patient-tested queuedUp between refl;
+  keeps = keeps-tested (words_left queued_up) queued_up between refl;
+  patient = patient-tested queued_up between refl;
   drawn = refl;
 }

@@ -1,19 +1,19 @@
 // Paints a scanline of playfield A: the border on both sides of the window, and inside it the pixels of a row.
 ghost use Rattle.std.specs.Prelude.{◌≡◌, ℕ, ◌<◌, ◌≤◌, true, false, length, bit_xor, slice_index};
-ghost use Rattle.xosera.specs.State.{stateAt};
-ghost use Rattle.xosera.specs.Fields.{colourBase, isBlank};
-ghost use Rattle.xosera.specs.Memories.{isVramLength};
-ghost use Rattle.xosera.specs.Adapter.{adapterAt};
+ghost use Rattle.xosera.specs.State.{state_at};
+ghost use Rattle.xosera.specs.Fields.{colour_base, is_blank};
+ghost use Rattle.xosera.specs.Memories.{is_vram_length};
+ghost use Rattle.xosera.specs.Adapter.{adapter_at};
 ghost use Rattle.calls.specs.Refusals.{first};
-ghost use Rattle.scanline.specs.Scanline.{playfieldA, rowStart, colourIndex, across, painted};
-ghost use Rattle.scanline.specs.PaintCall.{notPaintable, paintTests, Paints};
+ghost use Rattle.scanline.specs.Scanline.{playfield_a, row_start, colour_index, across, painted};
+ghost use Rattle.scanline.specs.PaintCall.{not_paintable, paint_tests, Paints};
 
 use scanline::{PaintAnswer, Playfield, SCREEN_WIDTH};
 use xosera::{PLAYFIELD_A, STATE_WORDS, VID_CTRL, VID_LEFT, VID_RIGHT, VramAddr};
 
 // What painting takes of the state.
 fn playfield_a(s: &[u16; STATE_WORDS]) -> Playfield
-    ensures { result ≡ playfieldA (stateAt s.now).video }
+    ensures { result ≡ playfield_a (state_at s.now).video }
 {
     let border = fields::border_index(s[VID_CTRL]);
     let address = VramAddr(s[PLAYFIELD_A + 2]);
@@ -29,7 +29,7 @@ fn playfield_a(s: &[u16; STATE_WORDS]) -> Playfield
 
 // Whether playfield A cannot be painted.
 fn not_paintable(p: Playfield) -> bool
-    ensures { result ≡ notPaintable p }
+    ensures { result ≡ not_paintable p }
 {
     if fields::is_blank(p.gfx) {
         return false;
@@ -45,7 +45,7 @@ fn not_paintable(p: Playfield) -> bool
 
 // Refusals 11 to 13.
 fn paint_refusal(p: Playfield, line: u32, n: usize) -> u8
-    ensures { result ≡ first (paintTests p line n) }
+    ensures { result ≡ first (paint_tests p line n) }
 {
     if not_paintable(p) {
         return 11;
@@ -62,7 +62,7 @@ fn paint_refusal(p: Playfield, line: u32, n: usize) -> u8
 // Where the row of a line starts.
 fn row_start(p: Playfield, line: u32) -> VramAddr
     requires { line ≤ 479 }
-    ensures { (result.0 ≡ rowStart p line) × (result.0 < 65536) }
+    ensures { (result.0 ≡ row_start p line) × (result.0 < 65536) }
 {
     let row = line / fields::v_repeat(p.gfx) as u32;
     let offset = (row * p.length as u32 % 65536) as u16;
@@ -73,7 +73,7 @@ fn row_start(p: Playfield, line: u32) -> VramAddr
 fn paint_blank(p: Playfield, colours: &[u16], pixels: &mut [u16])
     requires { length colours.now ≡ 256 }
     ensures { pixels.new ≡ across (length pixels.old)
-        (λ (x : ℕ). slice_index colours.now (bit_xor p.border (colourBase p.gfx))) }
+        (λ (x : ℕ). slice_index colours.now (bit_xor p.border (colour_base p.gfx))) }
 {
     let index = p.border ^ fields::colour_base(p.gfx);
     let width = pixels.len();
@@ -82,12 +82,12 @@ fn paint_blank(p: Playfield, colours: &[u16], pixels: &mut [u16])
 
 // A line that is not blank: border, window, border. The window ends with the line at the latest.
 fn paint_lit(p: Playfield, vram: &[u16], colours: &[u16], line: u32, pixels: &mut [u16])
-    requires vram_value { isVramLength (length vram.now) ≡ true }
+    requires vram_value { is_vram_length (length vram.now) ≡ true }
     requires colours_len { length colours.now ≡ 256 }
     requires line_bound { line ≤ 479 }
-    requires gfx_value { isBlank p.gfx ≡ false }
+    requires gfx_value { is_blank p.gfx ≡ false }
     ensures { pixels.new ≡ across (length pixels.old)
-        (λ (x : ℕ). slice_index colours.now (colourIndex p vram.now line x)) }
+        (λ (x : ℕ). slice_index colours.now (colour_index p vram.now line x)) }
 {
     let width = pixels.len();
     let right = row_pixels::lower(p.right as usize, width);
@@ -100,7 +100,7 @@ fn paint_lit(p: Playfield, vram: &[u16], colours: &[u16], line: u32, pixels: &mu
 
 // A line of as many words as are lent, with the colours of the first half of colour memory.
 fn paint_line(p: Playfield, vram: &[u16], xr: &[u16], line: u32, pixels: &mut [u16])
-    requires vram_value { isVramLength (length vram.now) ≡ true }
+    requires vram_value { is_vram_length (length vram.now) ≡ true }
     requires xr_len { length xr.now ≡ 6656 }
     requires line_bound { line ≤ 479 }
     ensures { pixels.new ≡ painted (length pixels.old) p vram.now xr.now line }
@@ -120,7 +120,7 @@ pub fn paint(
     line: u32,
     pixels: &mut [u16],
 ) -> PaintAnswer
-    ensures { Paints (adapterAt s.now vram.now xr.now) line pixels.old result.refusal pixels.new }
+    ensures { Paints (adapter_at s.now vram.now xr.now) line pixels.old result.refusal pixels.new }
 {
     let registers = ranges::registers_in_range(s);
     let beam = ranges::beam_in_range(s);

@@ -6,12 +6,12 @@ use Rattle.xosera.specs.Adapter.{Adapter}
 use Rattle.xosera.proofs.Branches.{cond-done, cond-refused}
 use Rattle.scanline.specs.PaintCall.{Paints}
 use Rattle.scanline.proofs.ClaimsHold.{scanline-claims}
-use Rattle.grey.specs.Grey.{greyLevel}
-use Rattle.paint_grey.specs.GreyLine.{greyAfter, PaintsGrey}
+use Rattle.grey.specs.Grey.{grey_level}
+use Rattle.paint_grey.specs.GreyLine.{grey_after, PaintsGrey}
 
 module _ (a : Adapter) (line : ℕ) (pixels : List ℕ) {refusal : ℕ} {colours : List ℕ} (painting : Paints a line pixels refusal colours) where
   pub grey-refused : (refusal ≡ 0 → ⊥) → PaintsGrey a line pixels refusal colours
-  unfolding greyAfter
+  unfolding grey_after
   grey-refused d = record {
     answers = painting.answers;
     leaves =
@@ -19,9 +19,9 @@ module _ (a : Adapter) (line : ℕ) (pixels : List ℕ) {refusal : ℕ} {colours
         ∙ sym (cond-refused _ _ painting.answers d);
   }
 
-  pub grey-done : {after : List ℕ} → refusal ≡ 0 → after ≡ map greyLevel colours → PaintsGrey a line pixels refusal after
-  unfolding greyAfter
+  pub grey-done : {after : List ℕ} → refusal ≡ 0 → after ≡ map grey_level colours → PaintsGrey a line pixels refusal after
+  unfolding grey_after
   grey-done z e = record {
     answers = painting.answers;
-    leaves = e ∙ ap (map greyLevel) painting.leaves ∙ sym (cond-done _ _ painting.answers z);
+    leaves = e ∙ ap (map grey_level) painting.leaves ∙ sym (cond-done _ _ painting.answers z);
   }

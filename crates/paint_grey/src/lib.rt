@@ -1,5 +1,5 @@
 // Paints a scanline of playfield A in grey levels.
-ghost use Rattle.xosera.specs.Adapter.{adapterAt};
+ghost use Rattle.xosera.specs.Adapter.{adapter_at};
 ghost use Rattle.paint_grey.specs.GreyLine.{PaintsGrey};
 
 use scanline::PaintAnswer;
@@ -13,7 +13,7 @@ pub fn paint_grey(
     line: u32,
     pixels: &mut [u16],
 ) -> PaintAnswer
-    ensures { PaintsGrey (adapterAt s.now vram.now xr.now) line pixels.old result.refusal
+    ensures { PaintsGrey (adapter_at s.now vram.now xr.now) line pixels.old result.refusal
         pixels.new }
 {
     let answer = paint::paint(s, vram, xr, line, pixels);

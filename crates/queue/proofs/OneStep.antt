@@ -9,13 +9,13 @@ use Rattle.xosera.specs.declared.Engine.{Engine}
 use Rattle.engine.specs.declared.Drawn.{Drawn}
 use Rattle.xosera.specs.State.{State, is_set}
 use Rattle.xosera.specs.Adapter.{adapter}
-use Rattle.xosera.specs.Blitter.{fetched, lastStep, next, drawing, drawn, blitEnded, stepped, stepMask, wordsLeft}
+use Rattle.xosera.specs.Blitter.{fetched, last_step, next, drawing, drawn, blit_ended, stepped, step_mask, words_left}
 use Rattle.xosera.specs.Ranges.{in_range}
 use Rattle.xosera.proofs.StepCases.{stepped-idle, stepped-last, stepped-on, running-mask}
 use Rattle.xosera.proofs.StepLaws.{step-mask-small, idle-none-left, running-some-left}
 use Rattle.words.specs.Spread.{spread}
 use Rattle.engine.specs.Drawing.{DrewOne}
-use Rattle.engine_words.specs.Held.{withEngine, moving}
+use Rattle.engine_words.specs.Held.{with_engine, moving}
 
 -- Engine e is the state's, as the code read it.
 module _ (s : State) (v : List ℕ) {e : Engine} (here : e ≡ s.engine) where
@@ -41,34 +41,34 @@ module _ (s : State) (v : List ℕ) {e : Engine} (here : e ≡ s.engine) where
 
   -- A word drawn, on a running engine: the mask of the step, and VRAM as the state's engine leaves it.
   module _ {r : Drawn} {u : List ℕ} (on : is_set s.engine.running ≡ true) (one : DrewOne e v r u) where
-    pub step-wrote : {m : ℕ} → ((k : ℕ) → r.bits ≡ spread k → m ≡ k % 16) → (x : List ℕ) → m ≡ stepMask (adapter s v x)
+    pub step-wrote : {m : ℕ} → ((k : ℕ) → r.bits ≡ spread k → m ≡ k % 16) → (x : List ℕ) → m ≡ step_mask (adapter s v x)
     step-wrote g x =
-        let same : (drawing e (fetched e v)).mask ≡ stepMask (adapter s v x) =
+        let same : (drawing e (fetched e v)).mask ≡ step_mask (adapter s v x) =
         ap (λ (f : Engine). (drawing f (fetched f v)).mask) here ∙ sym (running-mask (adapter s v x) on) in
-        let whole : stepMask (adapter s v x) % 16 ≡ stepMask (adapter s v x) = omega (arith, step-mask-small (adapter s v x)) in
+        let whole : step_mask (adapter s v x) % 16 ≡ step_mask (adapter s v x) = omega (arith, step-mask-small (adapter s v x)) in
         g _ (one.wrote ∙ ap spread same) ∙ whole
 
     drawn-here : u ≡ drawn s.engine v
     drawn-here = one.leaves ∙ ap (λ (x : Engine). drawn x v) here
 
-    pub step-ends : {t : State} → lastStep e ≡ true → ((w x : List ℕ) → adapter t w x ≡ blitEnded (adapter s w x))
+    pub step-ends : {t : State} → last_step e ≡ true → ((w x : List ℕ) → adapter t w x ≡ blit_ended (adapter s w x))
         → (x : List ℕ) → adapter t u x ≡ stepped (adapter s v x)
     step-ends {t} last k x =
-        k u x ∙ ap (λ (w : List ℕ). blitEnded (adapter s w x)) drawn-here ∙ sym (stepped-last (adapter s v x) on (ap lastStep (sym here) ∙ last))
+        k u x ∙ ap (λ (w : List ℕ). blit_ended (adapter s w x)) drawn-here ∙ sym (stepped-last (adapter s v x) on (ap last_step (sym here) ∙ last))
 
-    pub step-goes-on : {t : State} {n : Engine} → lastStep e ≡ false → n ≡ next e r.word → t ≡ withEngine s (moving s.engine n)
+    pub step-goes-on : {t : State} {n : Engine} → last_step e ≡ false → n ≡ next e r.word → t ≡ with_engine s (moving s.engine n)
         → (x : List ℕ) → adapter t u x ≡ stepped (adapter s v x)
     step-goes-on {n = n} more k m x =
         let there : n ≡ next s.engine (fetched s.engine v) =
         k ∙ ap (next e) one.took ∙ ap (λ (f : Engine). next f (fetched f v)) here in
         ap₂ (λ (t : State) (u : List ℕ). adapter t u x)
-        (m ∙ ap (λ (f : Engine). withEngine s (moving s.engine f)) there ∙ ap (withEngine s) (moved_on _ on)) drawn-here
-        ∙ sym (stepped-on (adapter s v x) on (ap lastStep (sym here) ∙ more))
+        (m ∙ ap (λ (f : Engine). with_engine s (moving s.engine f)) there ∙ ap (with_engine s) (moved_on _ on)) drawn-here
+        ∙ sym (stepped-on (adapter s v x) on (ap last_step (sym here) ∙ more))
 
 -- What a step counts.
 module _ (s : State) (v x : List ℕ) (r : in_range s ≡ true) where
-  pub counts-none : is_set s.engine.running ≡ false → 0 ≡ min 1 (wordsLeft (adapter s v x))
+  pub counts-none : is_set s.engine.running ≡ false → 0 ≡ min 1 (words_left (adapter s v x))
   counts-none off = omega (arith, idle-none-left (adapter s v x) r off)
 
-  pub counts-one : is_set s.engine.running ≡ true → 1 ≡ min 1 (wordsLeft (adapter s v x))
+  pub counts-one : is_set s.engine.running ≡ true → 1 ≡ min 1 (words_left (adapter s v x))
   counts-one on = omega (arith, running-some-left (adapter s v x) r on)

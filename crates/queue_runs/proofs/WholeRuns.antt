@@ -5,13 +5,13 @@ use Prim.Native.Nat.{ℕ, suc, ◌+◌, ◌-◌, min}
 use native.Mathlib.Omega.{arith}
 use Rattle.xosera.specs.State.{is_set}
 use Rattle.xosera.specs.Adapter.{Adapter, state_of}
-use Rattle.xosera.specs.Blitter.{steps, storeNow, nthMask, wordsLeft}
+use Rattle.xosera.specs.Blitter.{steps, store_now, nth_mask, words_left}
 use Rattle.xosera.specs.Ranges.{in_range}
 use Rattle.xosera.proofs.StepCases.{running-mask}
 use Rattle.xosera.proofs.RangeLaws.{steps-in-range}
 use Rattle.xosera.proofs.StepLaws.{steps-add, steps-enough, not-before}
 
-module _ (a : Adapter) (r : in_range (state_of a) ≡ true) (n : ℕ) {d : ℕ} (counted : d ≡ min n (wordsLeft a)) where
+module _ (a : Adapter) (r : in_range (state_of a) ≡ true) (n : ℕ) {d : ℕ} (counted : d ≡ min n (words_left a)) where
   pub none_done : d ≡ 0 → a ≡ steps n a
   unfolding steps
   none_done z = ap (λ (k : ℕ). steps k a) (sym z ∙ counted) ∙ steps-enough n a r
@@ -21,15 +21,15 @@ module _ (a : Adapter) (r : in_range (state_of a) ≡ true) (n : ℕ) {d : ℕ} 
     runs : is_set (steps (d - 1) a).engine.running ≡ true
     runs = not-before (d - 1) a r (omega (arith, counted, some))
 
-    pub last-wrote : {m : ℕ} → m ≡ (storeNow b).mask → m ≡ nthMask d a
-    unfolding nthMask
+    pub last-wrote : {m : ℕ} → m ≡ (store_now b).mask → m ≡ nth_mask d a
+    unfolding nth_mask
     last-wrote e =
-        e ∙ ap (λ (x : Adapter). (storeNow x).mask) first ∙ sym (running-mask (steps (d - 1) a) runs)
-        ∙ ap (λ (k : ℕ). nthMask k a) some
+        e ∙ ap (λ (x : Adapter). (store_now x).mask) first ∙ sym (running-mask (steps (d - 1) a) runs)
+        ∙ ap (λ (k : ℕ). nth_mask k a) some
 
     pub all_done : {c : Adapter} → c ≡ steps 1 b → c ≡ steps n a
     all_done e =
-        let whole : (d - 1) + 1 ≡ min n (wordsLeft a) = omega (arith, counted, some) in
+        let whole : (d - 1) + 1 ≡ min n (words_left a) = omega (arith, counted, some) in
         e ∙ ap (steps 1) first ∙ sym (steps-add (d - 1) 1 a) ∙ ap (λ (k : ℕ). steps k a) whole ∙ steps-enough n a r
 
     pub still-in-range : in_range (state_of b) ≡ true

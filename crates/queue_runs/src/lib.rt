@@ -1,9 +1,9 @@
 // Runs of blit steps on the words of the state, through the running blit and the queued one.
 ghost use Rattle.std.specs.Prelude.{◌≡◌, true, List, ℕ, min, length};
-ghost use Rattle.xosera.specs.State.{stateWords, stateAt};
-ghost use Rattle.xosera.specs.Memories.{isVramLength};
-ghost use Rattle.xosera.specs.Adapter.{adapterAt};
-ghost use Rattle.xosera.specs.Blitter.{steps, nthMask, wordsLeft};
+ghost use Rattle.xosera.specs.State.{state_words, state_at};
+ghost use Rattle.xosera.specs.Memories.{is_vram_length};
+ghost use Rattle.xosera.specs.Adapter.{adapter_at};
+ghost use Rattle.xosera.specs.Blitter.{steps, nth_mask, words_left};
 ghost use Rattle.xosera.specs.Ranges.{in_range};
 ghost use Rattle.queue_runs.specs.OneBlit.{OneBlit};
 
@@ -12,10 +12,10 @@ use xosera::QUEUED;
 
 // Up to n steps of the running blit alone. The answer is the rest of the steps.
 fn run_one(s: &mut [u16], vram: &mut [u16], n: u64) -> u64
-    requires s_len { length s.old ≡ stateWords }
-    requires vram_value { isVramLength (length vram.old) ≡ true }
-    requires s_value { in_range (stateAt s.old) ≡ true }
-    ensures { OneBlit (stateAt s.old) vram.old n (stateAt s.new) vram.new result }
+    requires s_len { length s.old ≡ state_words }
+    requires vram_value { is_vram_length (length vram.old) ≡ true }
+    requires s_value { in_range (state_at s.old) ≡ true }
+    ensures { OneBlit (state_at s.old) vram.old n (state_at s.new) vram.new result }
 {
     let e = engine_words::engine_of(s);
     if e.running != 1 {
@@ -33,10 +33,10 @@ fn run_one(s: &mut [u16], vram: &mut [u16], n: u64) -> u64
 
 // Up to n steps of the running blit and the queued one.
 fn run_both(s: &mut [u16], vram: &mut [u16], n: u64)
-    requires s_len { length s.old ≡ stateWords }
-    requires vram_value { isVramLength (length vram.old) ≡ true }
-    requires s_value { in_range (stateAt s.old) ≡ true }
-    ensures { (x : List ℕ) → adapterAt s.new vram.new x ≡ steps n (adapterAt s.old vram.old x) }
+    requires s_len { length s.old ≡ state_words }
+    requires vram_value { is_vram_length (length vram.old) ≡ true }
+    requires s_value { in_range (state_at s.old) ≡ true }
+    ensures { (x : List ℕ) → adapter_at s.new vram.new x ≡ steps n (adapter_at s.old vram.old x) }
 {
     let rest = run_one(s, vram, n);
     if rest == 0 {
@@ -47,9 +47,9 @@ fn run_both(s: &mut [u16], vram: &mut [u16], n: u64)
 
 // The words left in the running blit and the queued one.
 fn words_left(s: &[u16]) -> u64
-    requires s_len { length s.now ≡ stateWords }
-    requires s_value { in_range (stateAt s.now) ≡ true }
-    ensures { (v x : List ℕ) → result ≡ wordsLeft (adapterAt s.now v x) }
+    requires s_len { length s.now ≡ state_words }
+    requires s_value { in_range (state_at s.now) ≡ true }
+    ensures { (v x : List ℕ) → result ≡ words_left (adapter_at s.now v x) }
 {
     let e = engine_words::engine_of(s);
     if e.running != 1 {
@@ -70,12 +70,12 @@ fn smaller(a: u64, b: u64) -> u64
 
 // A run of up to n steps. All words but the last are done without their masks.
 pub fn run(s: &mut [u16], vram: &mut [u16], n: u64) -> Done
-    requires s_len { length s.old ≡ stateWords }
-    requires vram_value { isVramLength (length vram.old) ≡ true }
-    requires s_value { in_range (stateAt s.old) ≡ true }
-    ensures after { (x : List ℕ) → adapterAt s.new vram.new x ≡ steps n (adapterAt s.old vram.old x) }
-    ensures count { (x : List ℕ) → result.count ≡ min n (wordsLeft (adapterAt s.old vram.old x)) }
-    ensures mask { (x : List ℕ) → result.mask ≡ nthMask result.count (adapterAt s.old vram.old x) }
+    requires s_len { length s.old ≡ state_words }
+    requires vram_value { is_vram_length (length vram.old) ≡ true }
+    requires s_value { in_range (state_at s.old) ≡ true }
+    ensures after { (x : List ℕ) → adapter_at s.new vram.new x ≡ steps n (adapter_at s.old vram.old x) }
+    ensures count { (x : List ℕ) → result.count ≡ min n (words_left (adapter_at s.old vram.old x)) }
+    ensures mask { (x : List ℕ) → result.mask ≡ nth_mask result.count (adapter_at s.old vram.old x) }
 {
     let count = smaller(n, words_left(s));
     if count == 0 {

@@ -2,10 +2,10 @@
 // short enough for the compiler to put it into every call, which all in one function are not. Sixteen latches and an idle engine are
 // tested four words at once; the others word by word, because a read of four words waits for a store to any of them.
 ghost use Rattle.std.specs.Prelude.{◌≡◌, [], ◌∷◌, ◌+◌, ◌<◌, eqb};
-ghost use Rattle.xosera.specs.State.{word_at, stateAt};
-ghost use Rattle.xosera.specs.Ranges.{timerInRange, are_bytes, runningInRange, idleInRange, engineInRange, copperInRange};
+ghost use Rattle.xosera.specs.State.{word_at, state_at};
+ghost use Rattle.xosera.specs.Ranges.{timer_in_range, are_bytes, running_in_range, idle_in_range, engine_in_range, copper_in_range};
 ghost use Rattle.ranges.specs.Lanes.{Lanes};
-ghost use Rattle.ranges.specs.RangeParts.{registersInRange, blitterInRange, beamCopperInRange};
+ghost use Rattle.ranges.specs.RangeParts.{registers_in_range, blitter_in_range, beam_copper_in_range};
 
 use xosera::{
     BEAM_LINE, BEAM_POSITION, COPP_CTRL, COPPER_RUNNING, COPPER_WORD, COUNTDOWN, ENGINE_CTRL,
@@ -33,7 +33,7 @@ fn four(s: &[u16; STATE_WORDS], k: usize) -> u64
 
 // Countdown 1 to its interval, or both 0.
 fn timer_in_range(s: &[u16; STATE_WORDS]) -> bool
-    ensures { result ≡ timerInRange (stateAt s.now).host.timer }
+    ensures { result ≡ timer_in_range (state_at s.now).host.timer }
 {
     if s[COUNTDOWN] == s[INTERVAL] {
         return true;
@@ -55,7 +55,7 @@ fn high_bytes(s: &[u16; STATE_WORDS], k: usize) -> u64
 
 // Sixteen latches that are bytes.
 fn latches_in_range(s: &[u16; STATE_WORDS]) -> bool
-    ensures { result ≡ are_bytes (stateAt s.now).host.latches }
+    ensures { result ≡ are_bytes (state_at s.now).host.latches }
 {
     let low = high_bytes(s, LATCHES) | high_bytes(s, LATCHES + 4);
     let high = high_bytes(s, LATCHES + 8) | high_bytes(s, LATCHES + 12);
@@ -64,7 +64,7 @@ fn latches_in_range(s: &[u16; STATE_WORDS]) -> bool
 
 // The main registers and the interrupt status, in the order of the definitions.
 pub fn registers_in_range(s: &[u16; STATE_WORDS]) -> bool
-    ensures { result ≡ registersInRange (stateAt s.now) }
+    ensures { result ≡ registers_in_range (state_at s.now) }
 {
     if s[NIBBLES] > 15 {
         return false;
@@ -85,7 +85,7 @@ pub fn registers_in_range(s: &[u16; STATE_WORDS]) -> bool
 }
 
 fn running_in_range(s: &[u16; STATE_WORDS]) -> bool
-    ensures { result ≡ runningInRange (stateAt s.now).engine }
+    ensures { result ≡ running_in_range (state_at s.now).engine }
 {
     if s[ENGINE_LINES] > 32767 {
         return false;
@@ -107,7 +107,7 @@ fn running_in_range(s: &[u16; STATE_WORDS]) -> bool
 
 // The flag and thirteen words that are all 0. Two of them are read twice.
 fn idle_in_range(s: &[u16; STATE_WORDS]) -> bool
-    ensures { result ≡ idleInRange (stateAt s.now).engine }
+    ensures { result ≡ idle_in_range (state_at s.now).engine }
 {
     let low = four(s, ENGINE_RUNNING) | four(s, ENGINE_CTRL);
     let high = four(s, ENGINE_SRC_S) | four(s, ENGINE_DST_D);
@@ -115,7 +115,7 @@ fn idle_in_range(s: &[u16; STATE_WORDS]) -> bool
 }
 
 fn engine_in_range(s: &[u16; STATE_WORDS]) -> bool
-    ensures { result ≡ engineInRange (stateAt s.now).engine }
+    ensures { result ≡ engine_in_range (state_at s.now).engine }
 {
     if s[ENGINE_RUNNING] == 1 {
         running_in_range(s)
@@ -126,7 +126,7 @@ fn engine_in_range(s: &[u16; STATE_WORDS]) -> bool
 
 // The queue and the engine.
 pub fn blitter_in_range(s: &[u16; STATE_WORDS]) -> bool
-    ensures { result ≡ blitterInRange (stateAt s.now) }
+    ensures { result ≡ blitter_in_range (state_at s.now) }
 {
     if s[QUEUED] > s[ENGINE_RUNNING] {
         return false;
@@ -135,7 +135,7 @@ pub fn blitter_in_range(s: &[u16; STATE_WORDS]) -> bool
 }
 
 fn copper_in_range(s: &[u16; STATE_WORDS]) -> bool
-    ensures { result ≡ copperInRange (stateAt s.now).video.coppctrl (stateAt s.now).beam }
+    ensures { result ≡ copper_in_range (state_at s.now).video.coppctrl (state_at s.now).beam }
 {
     if s[COPPER_RUNNING] == 1 {
         if !fields::copper_enabled(s[COPP_CTRL]) {
@@ -151,7 +151,7 @@ fn copper_in_range(s: &[u16; STATE_WORDS]) -> bool
 
 // The beam and the copper.
 pub fn beam_in_range(s: &[u16; STATE_WORDS]) -> bool
-    ensures { result ≡ beamCopperInRange (stateAt s.now) }
+    ensures { result ≡ beam_copper_in_range (state_at s.now) }
 {
     if s[BEAM_LINE] >= FRAME_LINES {
         return false;

@@ -10,10 +10,10 @@ use Rattle.xosera.specs.declared.Engine.{Engine}
 use Rattle.reasons.specs.declared.Why.{Why}
 use Rattle.reasons.specs.declared.Why.TheVariants.{NeverReached, Written}
 use Rattle.xosera.specs.Adapter.{Adapter}
-use Rattle.xosera.specs.Blitter.{moved, steps, stepMask}
+use Rattle.xosera.specs.Blitter.{moved, steps, step_mask}
 use Rattle.xosera.proofs.Branches.{cond_cases, clash}
 use Rattle.xosera.specs.Memories.{Pixel}
-use Rattle.reasons.specs.Account.{reachesWord, writesNibble, heldBackBy, heldBack, unlessWritten, noted, account}
+use Rattle.reasons.specs.Account.{reaches_word, writes_nibble, held_back_by, held_back, unless_written, noted, account}
 use Rattle.reasons.specs.Claims.{None, Last}
 
 -- Of n steps, and of the one after them.
@@ -50,31 +50,31 @@ module _ (does : Adapter → Bool) (n : ℕ) (a : Adapter) where
   none_last {k} none l = clash l.does-it (none k l.within)
 
 -- A step that writes a nibble reaches its word.
-pub unreached-unwritten : (p : Pixel) (a : Adapter) → reachesWord p a ≡ false → writesNibble p a ≡ false
-unfolding writesNibble
+pub unreached-unwritten : (p : Pixel) (a : Adapter) → reaches_word p a ≡ false → writes_nibble p a ≡ false
+unfolding writes_nibble
 unreached-unwritten p a h = rw h
 
-pub none-unwritten : (p : Pixel) (n : ℕ) (a : Adapter) → None (reachesWord p) n a → None (writesNibble p) n a
+pub none-unwritten : (p : Pixel) (n : ℕ) (a : Adapter) → None (reaches_word p) n a → None (writes_nibble p) n a
 none-unwritten p n a none k h = unreached-unwritten p (steps k a) (none k h)
 
 -- What n steps did, with the last of them that counts.
 pub data Became (p : Pixel) (n : ℕ) (a : Adapter) (w : Why) : Type 0 where
-  never : w ≡ NeverReached → None (reachesWord p) n a → Became p n a w
-  held : (k : ℕ) → w ≡ heldBack p (steps k a) → Last (reachesWord p) n a k → None (writesNibble p) n a → Became p n a w
-  wrote : (k : ℕ) → w ≡ Written (steps k a).engine.line (steps k a).engine.word → Last (writesNibble p) n a k → Became p n a w
+  never : w ≡ NeverReached → None (reaches_word p) n a → Became p n a w
+  held : (k : ℕ) → w ≡ held_back p (steps k a) → Last (reaches_word p) n a k → None (writes_nibble p) n a → Became p n a w
+  wrote : (k : ℕ) → w ≡ Written (steps k a).engine.line (steps k a).engine.word → Last (writes_nibble p) n a k → Became p n a w
 
 module _ (p : Pixel) (n : ℕ) (a : Adapter) (w : Why) where
   abbrev now : Adapter
   now = steps n a
 
   abbrev reaches : Adapter → Bool
-  reaches = reachesWord p
+  reaches = reaches_word p
 
   abbrev writes : Adapter → Bool
-  writes = writesNibble p
+  writes = writes_nibble p
 
-  reached-more : writes now ≡ false → reaches now ≡ true → Became p n a w → Became p (suc n) a (unlessWritten w (heldBack p now))
-  unfolding unlessWritten heldBack heldBackBy
+  reached-more : writes now ≡ false → reaches now ≡ true → Became p n a w → Became p (suc n) a (unless_written w (held_back p now))
+  unfolding unless_written held_back held_back_by
   reached-more hw hr (never e none) = held n (rw e) (last-now reaches n a hr) (none_more writes n a (none-unwritten p n a none) hw)
   reached-more hw hr (held k e l none) = held n (rw e) (last-now reaches n a hr) (none_more writes n a none hw)
   reached-more hw hr (wrote k e l) = wrote k (rw e) (one_more writes n a l hw)
@@ -98,5 +98,5 @@ became p (suc n) a = noted_more p n a (account p n a) (became p n a)
 
 -- A step is noted by its engine and its memory alone.
 pub noted-alike : (p : Pixel) (a b : Adapter) (w : Why) → a.engine ≡ b.engine → a.vram ≡ b.vram → noted p a w ≡ noted p b w
-unfolding noted writesNibble reachesWord heldBack stepMask
+unfolding noted writes_nibble reaches_word held_back step_mask
 noted-alike p a b w e v = ap₂ (λ (f : Engine) (u : List ℕ). noted p (moved a f u) w) e v

@@ -13,17 +13,17 @@ use Rattle.reasons.specs.declared.Why.{Why}
 use Rattle.reasons.specs.declared.Why.TheVariants.{Refused, NeverReached, HeldBack, Written}
 use Rattle.reasons.specs.declared.WhyAnswer.{WhyAnswer}
 use Rattle.xosera.specs.Adapter.{Adapter}
-use Rattle.xosera.specs.Blitter.{launched, moved, steps, blitWords}
+use Rattle.xosera.specs.Blitter.{launched, moved, steps, blit_words}
 use Rattle.calls.specs.Calls.{after}
-use Rattle.calls.specs.Sequences.{startWith, words_of}
+use Rattle.calls.specs.Sequences.{start_with, words_of}
 use Rattle.xosera.proofs.Branches.{cond_yes, cond_no}
 use Rattle.calls.proofs.BlitEnds.{started-engine}
 use Rattle.xosera.proofs.StepLaws.{launched-words}
 use Rattle.masks.proofs.AnsweredMasks.{vram-some}
 use Rattle.xosera.specs.Memories.{Pixel}
-use Rattle.blits.specs.Blits.{drawnBy}
-use Rattle.reasons.specs.Account.{account, whyOf}
-use Rattle.reasons.specs.WhyCall.{whyRefusal, told, workAfter, numbers, Explains}
+use Rattle.blits.specs.Blits.{drawn_by}
+use Rattle.reasons.specs.Account.{account, why_of}
+use Rattle.reasons.specs.WhyCall.{why_refusal, told, work_after, numbers, Explains}
 use Rattle.reasons.specs.Claims.{Reasons, AsStarted, Answered, WhyClaims}
 use Rattle.reasons.proofs.ReasonsHold.{every-adapter, reasons-hold}
 use Rattle.reasons.proofs.RefusalOrder.{refusals-hold, accepted-means}
@@ -34,7 +34,7 @@ unfolding words_of
 started-alike s p e =
     let r = s.side.blit in
     let same : s ≡ moved s (launched r) s.vram = ap (λ (f : Engine). moved s f s.vram) e in
-    let words : blitWords s.engine.regs ≡ blitWords r = ap (λ (f : Engine). blitWords f.regs) e ∙ launched-words r in
+    let words : blit_words s.engine.regs ≡ blit_words r = ap (λ (f : Engine). blit_words f.regs) e ∙ launched-words r in
     let both = every-adapter r s.vram p s in
     record {
       same-account = ap₂ (account p) words same ∙ both.0;
@@ -42,18 +42,18 @@ started-alike s p e =
     }
 
 -- An answer by its numbers, which lose nothing.
-abbrev ofNumbers : WhyAnswer → ℕ → Why
-ofNumbers a fate = get_or (Refused a.refusal ∷ NeverReached ∷ HeldBack a.first a.last a.colour ∷ Written a.line a.word ∷ []) fate NeverReached
+abbrev of_numbers : WhyAnswer → ℕ → Why
+of_numbers a fate = get_or (Refused a.refusal ∷ NeverReached ∷ HeldBack a.first a.last a.colour ∷ Written a.line a.word ∷ []) fate NeverReached
 
-by-numbers : (w : Why) → ofNumbers (numbers w) (numbers w).fate ≡ w
+by-numbers : (w : Why) → of_numbers (numbers w) (numbers w).fate ≡ w
 unfolding numbers
 by-numbers (Refused n) = refl
 by-numbers NeverReached = refl
 by-numbers (HeldBack f l c) = refl
 by-numbers (Written l i) = refl
 
-by-fate : (w : Why) {fate : ℕ} → (numbers w).fate ≡ fate → w ≡ ofNumbers (numbers w) fate
-by-fate w h = sym (by-numbers w) ∙ ap (ofNumbers (numbers w)) h
+by-fate : (w : Why) {fate : ℕ} → (numbers w).fate ≡ fate → w ≡ of_numbers (numbers w) fate
+by-fate w h = sym (by-numbers w) ∙ ap (of_numbers (numbers w)) h
 
 by-refusal : (w : Why) → ((n : ℕ) → w ≡ Refused n → ⊥) → ((numbers w).refusal ≡ 0) × (0 < (numbers w).fate) × ((numbers w).fate ≤ 3)
 unfolding numbers
@@ -63,7 +63,7 @@ by-refusal (HeldBack f l c) h = (refl, omega arith, omega arith)
 by-refusal (Written l i) h = (refl, omega arith, omega arith)
 
 apart : (w x : Why) → numbers w ≡ numbers x → w ≡ x
-apart w x h = sym (by-numbers w) ∙ ap (λ (a : WhyAnswer). ofNumbers a a.fate) h ∙ by-numbers x
+apart w x h = sym (by-numbers w) ∙ ap (λ (a : WhyAnswer). of_numbers a a.fate) h ∙ by-numbers x
 
 no-reasons : (w : Why) → ((numbers w).fate ≡ 2 → ⊥) → ((numbers w).first ≡ false) × ((numbers w).last ≡ false) × ((numbers w).colour ≡ false)
 unfolding numbers
@@ -84,10 +84,10 @@ module _ (r : BlitRegs) (before work : List ℕ) (p : Pixel) where
   abbrev here : Reasons r before p
   here = reasons-hold r before p
 
-  done-so : whyRefusal (length before) (length work) p ≡ 0 → Answered r before work p (numbers (whyOf r before p)) (drawnBy r before)
+  done-so : why_refusal (length before) (length work) p ≡ 0 → Answered r before work p (numbers (why_of r before p)) (drawn_by r before)
   unfolding numbers
   done-so h =
-      let w = whyOf r before p in
+      let w = why_of r before p in
       let long = vram-some (length before) (accepted-means (length before) (length work) p h).long in
       let told = by-refusal w here.not-refused in
       record {
@@ -102,7 +102,7 @@ module _ (r : BlitRegs) (before work : List ℕ) (p : Pixel) where
         no_word = no_word w;
       }
 
-  refused-so : (n : ℕ) → n ≡ whyRefusal (length before) (length work) p → (n ≡ 0 → ⊥) → Answered r before work p (numbers (Refused n)) work
+  refused-so : (n : ℕ) → n ≡ why_refusal (length before) (length work) p → (n ≡ 0 → ⊥) → Answered r before work p (numbers (Refused n)) work
   unfolding numbers
   refused-so n h d = record {
     refusal = h;
@@ -118,11 +118,11 @@ module _ (r : BlitRegs) (before work : List ℕ) (p : Pixel) where
 
 answered-so : (r : BlitRegs) (before work : List ℕ) (p : Pixel) (given : WhyAnswer) (after : List ℕ) → Explains r before work p given after
     → Answered r before work p given after
-unfolding told workAfter
+unfolding told work_after
 answered-so r before work p given after x = go (ℕ_discrete n 0)
   where
     n : ℕ
-    n = whyRefusal (length before) (length work) p
+    n = why_refusal (length before) (length work) p
 
     go : Dec (n ≡ 0) → Answered r before work p given after
     go (yes z) =
@@ -137,7 +137,7 @@ answered-so r before work p given after x = go (ℕ_discrete n 0)
 pub why-claims : WhyClaims
 why-claims = record {
   reasons = reasons-hold;
-  started = λ a b p h. started-alike (after a (startWith b)) p (started-engine a b h);
+  started = λ a b p h. started-alike (after a (start_with b)) p (started-engine a b h);
   refusals = refusals-hold;
   apart = apart;
   answered = answered-so;

@@ -1,15 +1,15 @@
 -- The examples hold: antt computes them.
 use mathlib.Core.Path.{refl}
 use Rattle.calls.proofs.ComputingCalls.{computing-calls}
-use Rattle.blits.specs.Blits.{begun, drawnBy}
-use Rattle.reasons.specs.Account.{reachesWord, writesNibble, heldBackBy, heldBack, unlessWritten, noted, account, whyOf}
-use Rattle.xosera.specs.Memories.{badPixel}
-use Rattle.reasons.specs.WhyCall.{badMemories, whyRefusal, told, workAfter, numbers}
+use Rattle.blits.specs.Blits.{begun, drawn_by}
+use Rattle.reasons.specs.Account.{reaches_word, writes_nibble, held_back_by, held_back, unless_written, noted, account, why_of}
+use Rattle.xosera.specs.Memories.{bad_pixel}
+use Rattle.reasons.specs.WhyCall.{bad_memories, why_refusal, told, work_after, numbers}
 use Rattle.reasons.specs.Examples.{WhyExamples}
 
 pub why-examples : WhyExamples
-unfolding computing-calls begun reachesWord writesNibble heldBackBy heldBack unlessWritten noted account whyOf drawnBy
-    badMemories badPixel whyRefusal told workAfter numbers
+unfolding computing-calls begun reaches_word writes_nibble held_back_by held_back unless_written noted account why_of drawn_by
+    bad_memories bad_pixel why_refusal told work_after numbers
 why-examples = record {
   edges = refl;
   one_word = refl;

@@ -6,15 +6,15 @@ use Rattle.reasons.specs.declared.Why.{Why}
 use Rattle.reasons.specs.declared.Why.TheVariants.{Refused, NeverReached, HeldBack, Written}
 use Rattle.reasons.specs.declared.WhyAnswer.{WhyAnswer}
 use Rattle.xosera.specs.Words.{nibble, combined}
-use Rattle.xosera.specs.Memories.{isVramLength, Pixel, fromRight}
+use Rattle.xosera.specs.Memories.{is_vram_length, Pixel, from_right}
 use Rattle.xosera.specs.Adapter.{Adapter}
-use Rattle.xosera.specs.Blitter.{launched, moved, steps, blitWords}
+use Rattle.xosera.specs.Blitter.{launched, moved, steps, blit_words}
 use Rattle.calls.specs.Calls.{after}
-use Rattle.calls.specs.Sequences.{startWith, Starts, words_of}
-use Rattle.masks.specs.Masks.{firstHolds, lastHolds, testHolds, sourceNow}
-use Rattle.blits.specs.Blits.{begun, drawnBy, Inside, step_of}
-use Rattle.reasons.specs.Account.{reachesWord, writesNibble, account, whyOf}
-use Rattle.reasons.specs.WhyCall.{whyRefusal, numbers, Explains}
+use Rattle.calls.specs.Sequences.{start_with, Starts, words_of}
+use Rattle.masks.specs.Masks.{first_holds, last_holds, test_holds, source_now}
+use Rattle.blits.specs.Blits.{begun, drawn_by, Inside, step_of}
+use Rattle.reasons.specs.Account.{reaches_word, writes_nibble, account, why_of}
+use Rattle.reasons.specs.WhyCall.{why_refusal, numbers, Explains}
 
 -- Of n steps from an adapter, counted from 0: no step does it; step k does, and no later one.
 abbrev pub None : (Adapter → Bool) → ℕ → Adapter → Type 0
@@ -28,20 +28,20 @@ pub record Last (does : Adapter → Bool) (n : ℕ) (a : Adapter) (k : ℕ) : Ty
 -- At the last reach these reasons hold the nibble back and no others, and no step writes it.
 pub record HeldThere (p : Pixel) (n : ℕ) (a : Adapter) (first : Bool) (last : Bool) (colour : Bool) : Type 0 where
   pub step : ℕ
-  pub reach : Last (reachesWord p) n a step
-  pub first-mask : first ≡ firstHolds (steps step a).engine (fromRight p)
-  pub last-mask : last ≡ lastHolds (steps step a).engine (fromRight p)
-  pub colour-test : colour ≡ testHolds (steps step a).engine (sourceNow (steps step a)) (fromRight p)
-  pub never-written : None (writesNibble p) n a
+  pub reach : Last (reaches_word p) n a step
+  pub first-mask : first ≡ first_holds (steps step a).engine (from_right p)
+  pub last-mask : last ≡ last_holds (steps step a).engine (from_right p)
+  pub colour-test : colour ≡ test_holds (steps step a).engine (source_now (steps step a)) (from_right p)
+  pub never-written : None (writes_nibble p) n a
 
 -- The step of line l, word w is the last of the blit that writes the nibble.
 pub record WrittenThere (r : BlitRegs) (v : List ℕ) (p : Pixel) (l : ℕ) (w : ℕ) : Type 0 where
   pub inside : Inside r l w
-  pub write : Last (writesNibble p) (blitWords r) (begun r v) (step_of r l w)
+  pub write : Last (writes_nibble p) (blit_words r) (begun r v) (step_of r l w)
 
 -- The nibble's value in a memory.
-abbrev pub valueIn : List ℕ → Pixel → ℕ
-valueIn v p = nibble (fromRight p) (get_or v p.address 0)
+abbrev pub value_in : List ℕ → Pixel → ℕ
+value_in v p = nibble (from_right p) (get_or v p.address 0)
 
 -- Of the blit of ten registers on a memory, and a nibble.
 pub record Reasons (r : BlitRegs) (v : List ℕ) (p : Pixel) : Type 0 where
@@ -49,49 +49,49 @@ pub record Reasons (r : BlitRegs) (v : List ℕ) (p : Pixel) : Type 0 where
   pub that-step : (l w : ℕ) → Inside r l w → let e = (steps (step_of r l w) (begun r v)).engine in (e.line ≡ l) × (e.word ≡ w)
   -- "Written" at line l, word w if and only if that step's mask has the nibble, its destination is the place, and no later step
   -- writes it.
-  pub written-true : (l w : ℕ) → whyOf r v p ≡ Written l w → WrittenThere r v p l w
-  pub true-written : (l w : ℕ) → WrittenThere r v p l w → whyOf r v p ≡ Written l w
+  pub written-true : (l w : ℕ) → why_of r v p ≡ Written l w → WrittenThere r v p l w
+  pub true-written : (l w : ℕ) → WrittenThere r v p l w → why_of r v p ≡ Written l w
   -- "Held back" if and only if a step reaches it and none writes it: each reason given holds at the last reach, each that holds there
   -- is given, and there is one at least.
-  pub held-true : (f l c : Bool) → whyOf r v p ≡ HeldBack f l c → HeldThere p (blitWords r) (begun r v) f l c
-  pub true-held : (f l c : Bool) → HeldThere p (blitWords r) (begun r v) f l c → whyOf r v p ≡ HeldBack f l c
-  pub some-reason : (f l c : Bool) → whyOf r v p ≡ HeldBack f l c → f || l || c ≡ true
+  pub held-true : (f l c : Bool) → why_of r v p ≡ HeldBack f l c → HeldThere p (blit_words r) (begun r v) f l c
+  pub true-held : (f l c : Bool) → HeldThere p (blit_words r) (begun r v) f l c → why_of r v p ≡ HeldBack f l c
+  pub some-reason : (f l c : Bool) → why_of r v p ≡ HeldBack f l c → f || l || c ≡ true
   -- "Never reached" if and only if no step's destination is the place.
-  pub never_true : whyOf r v p ≡ NeverReached → None (reachesWord p) (blitWords r) (begun r v)
-  pub true-never : None (reachesWord p) (blitWords r) (begun r v) → whyOf r v p ≡ NeverReached
+  pub never_true : why_of r v p ≡ NeverReached → None (reaches_word p) (blit_words r) (begun r v)
+  pub true-never : None (reaches_word p) (blit_words r) (begun r v) → why_of r v p ≡ NeverReached
   -- The account of a blit is one of these three.
-  pub not-refused : (n : ℕ) → whyOf r v p ≡ Refused n → ⊥
+  pub not-refused : (n : ℕ) → why_of r v p ≡ Refused n → ⊥
   -- A nibble that is not written has the value of the memory before; one that is written has that of the result of the step given.
-  pub kept : 0 < length v → ((l w : ℕ) → whyOf r v p ≡ Written l w → ⊥) → valueIn (drawnBy r v) p ≡ valueIn v p
-  pub drawn : 0 < length v → (l w : ℕ) → whyOf r v p ≡ Written l w
-      → valueIn (drawnBy r v) p ≡ nibble (fromRight p) (combined (sourceNow (steps (step_of r l w) (begun r v))) r.andc r.xor)
+  pub kept : 0 < length v → ((l w : ℕ) → why_of r v p ≡ Written l w → ⊥) → value_in (drawn_by r v) p ≡ value_in v p
+  pub drawn : 0 < length v → (l w : ℕ) → why_of r v p ≡ Written l w
+      → value_in (drawn_by r v) p ≡ nibble (from_right p) (combined (source_now (steps (step_of r l w) (begun r v))) r.andc r.xor)
   -- Every adapter that runs this blit on this memory has the same account, and the same memory after it.
   pub every-adapter : (a : Adapter) →
-      (account p (blitWords r) (moved a (launched r) v) ≡ whyOf r v p) × ((steps (blitWords r) (moved a (launched r) v)).vram ≡ drawnBy r v)
+      (account p (blit_words r) (moved a (launched r) v) ≡ why_of r v p) × ((steps (blit_words r) (moved a (launched r) v)).vram ≡ drawn_by r v)
 
 -- The same of a blit started through the registers: its ten registers are those that then stand in the adapter.
 pub record AsStarted (s : Adapter) (p : Pixel) : Type 0 where
-  pub same-account : account p (words_of s) s ≡ whyOf s.side.blit s.vram p
-  pub same_memory : (steps (words_of s) s).vram ≡ drawnBy s.side.blit s.vram
+  pub same-account : account p (words_of s) s ≡ why_of s.side.blit s.vram p
+  pub same_memory : (steps (words_of s) s).vram ≡ drawn_by s.side.blit s.vram
 
 -- Refusals: 1 for either VRAM or lengths that differ, then 15, and none otherwise.
 pub record WhyRefusals : Type 0 where
-  pub accepted : (n : ℕ) (p : Pixel) → isVramLength n ≡ true → p.nibble ≤ 3 → p.address < n → whyRefusal n n p ≡ 0
-  pub not-a-length : (m n : ℕ) (p : Pixel) → isVramLength m ≡ false → (whyRefusal m n p ≡ 1) × (whyRefusal n m p ≡ 1)
-  pub lengths_differ : (m n : ℕ) (p : Pixel) → (m ≡ n → ⊥) → whyRefusal m n p ≡ 1
-  pub no-such-nibble : (n : ℕ) (p : Pixel) → isVramLength n ≡ true → 3 < p.nibble → whyRefusal n n p ≡ 15
-  pub no-such-word : (n : ℕ) (p : Pixel) → isVramLength n ≡ true → n ≤ p.address → whyRefusal n n p ≡ 15
+  pub accepted : (n : ℕ) (p : Pixel) → is_vram_length n ≡ true → p.nibble ≤ 3 → p.address < n → why_refusal n n p ≡ 0
+  pub not-a-length : (m n : ℕ) (p : Pixel) → is_vram_length m ≡ false → (why_refusal m n p ≡ 1) × (why_refusal n m p ≡ 1)
+  pub lengths_differ : (m n : ℕ) (p : Pixel) → (m ≡ n → ⊥) → why_refusal m n p ≡ 1
+  pub no-such-nibble : (n : ℕ) (p : Pixel) → is_vram_length n ≡ true → 3 < p.nibble → why_refusal n n p ≡ 15
+  pub no-such-word : (n : ℕ) (p : Pixel) → is_vram_length n ≡ true → n ≤ p.address → why_refusal n n p ≡ 15
 
 -- What a call that gives these numbers and leaves this memory has said and done.
 pub record Answered (r : BlitRegs) (before : List ℕ) (work : List ℕ) (p : Pixel) (given : WhyAnswer) (after : List ℕ) : Type 0 where
   -- It gives the refusal that applies.
-  pub refusal : given.refusal ≡ whyRefusal (length before) (length work) p
-  pub never : given.fate ≡ 1 → None (reachesWord p) (blitWords r) (begun r before)
-  pub held : given.fate ≡ 2 → HeldThere p (blitWords r) (begun r before) given.first given.last given.colour
+  pub refusal : given.refusal ≡ why_refusal (length before) (length work) p
+  pub never : given.fate ≡ 1 → None (reaches_word p) (blit_words r) (begun r before)
+  pub held : given.fate ≡ 2 → HeldThere p (blit_words r) (begun r before) given.first given.last given.colour
   pub written : given.fate ≡ 3 → WrittenThere r before p given.line given.word
   -- Done, it gives one of these and leaves the memory as the blit does; the nibble is as before unless it is written.
-  pub done : given.refusal ≡ 0 → (0 < given.fate) × (given.fate ≤ 3) × (after ≡ drawnBy r before)
-  pub kept : given.refusal ≡ 0 → (given.fate ≡ 3 → ⊥) → valueIn after p ≡ valueIn before p
+  pub done : given.refusal ≡ 0 → (0 < given.fate) × (given.fate ≤ 3) × (after ≡ drawn_by r before)
+  pub kept : given.refusal ≡ 0 → (given.fate ≡ 3 → ⊥) → value_in after p ≡ value_in before p
   -- Refused, it gives that alone and leaves the memory.
   pub refused : (given.refusal ≡ 0 → ⊥) → (given.fate ≡ 0) × (after ≡ work)
   -- Reasons come with "held back" alone, line and word with "written" alone.
@@ -100,7 +100,7 @@ pub record Answered (r : BlitRegs) (before : List ℕ) (work : List ℕ) (p : Pi
 
 pub record WhyClaims : Type 0 where
   pub reasons : (r : BlitRegs) (v : List ℕ) (p : Pixel) → Reasons r v p
-  pub started : (a : Adapter) (b : ℕ) (p : Pixel) → Starts a b → AsStarted (after a (startWith b)) p
+  pub started : (a : Adapter) (b : ℕ) (p : Pixel) → Starts a b → AsStarted (after a (start_with b)) p
   pub refusals : WhyRefusals
   -- The numbers tell the answers apart.
   pub apart : (w x : Why) → numbers w ≡ numbers x → w ≡ x

@@ -6,9 +6,9 @@ use Rattle.reasons.specs.declared.Why.{Why}
 use Rattle.reasons.specs.declared.Why.TheVariants.{Refused, NeverReached, HeldBack, Written}
 use Rattle.reasons.specs.declared.WhyAnswer.{WhyAnswer}
 use Rattle.xosera.specs.Memories.{Pixel}
-use Rattle.blits.specs.Blits.{drawnBy}
-use Rattle.reasons.specs.Account.{whyOf}
-use Rattle.reasons.specs.WhyCall.{whyRefusal, told, workAfter, numbers}
+use Rattle.blits.specs.Blits.{drawn_by}
+use Rattle.reasons.specs.Account.{why_of}
+use Rattle.reasons.specs.WhyCall.{why_refusal, told, work_after, numbers}
 
 abbrev pub memory : List ℕ
 memory = 0xFFFF ∷ 0xFFFF ∷ 0xFFFF ∷ 0xFFFF ∷ 0x1234 ∷ 0x5678 ∷ 0x9ABC ∷ 0xFFFF ∷ []
@@ -18,11 +18,11 @@ abbrev pub ◌at◌ : ℕ → ℕ → Pixel
 nibble at address = record { address = address; nibble = nibble }
 
 abbrev pub asked : BlitRegs → List Pixel → List Why
-asked r = map (whyOf r memory)
+asked r = map (why_of r memory)
 
 -- Three words from 4 to 0, with the edges of the bench table's first row: SHIFT 7801.
-abbrev pub edgedCopy : BlitRegs
-edgedCopy = record { ctrl = 0; andc = 0; xor = 0; mods = 0; srcs = 4; modd = 0; dstd = 0; shift = 0x7801; lines = 0; words = 2 }
+abbrev pub edged_copy : BlitRegs
+edged_copy = record { ctrl = 0; andc = 0; xor = 0; mods = 0; srcs = 4; modd = 0; dstd = 0; shift = 0x7801; lines = 0; words = 2 }
 
 -- A constant to word 0, by CTRL, MOD_S, SRC_S, SHIFT and LINES: lines of one word, all to the same place.
 abbrev pub constant : ℕ → ℕ → ℕ → ℕ → ℕ → BlitRegs
@@ -40,8 +40,8 @@ constant ctrl mods srcs shift lines = record {
 }
 
 -- Two lines of two words, the second from 0xFFFF on: word 0 of VRAM is the first of one line and the last of the other.
-abbrev pub linesThatMeet : BlitRegs
-linesThatMeet = record { ctrl = 1; andc = 0; xor = 0; mods = 0; srcs = 0x1111; modd = 0xFFFD; dstd = 0; shift = 0x7700; lines = 1; words = 1 }
+abbrev pub lines_that_meet : BlitRegs
+lines_that_meet = record { ctrl = 1; andc = 0; xor = 0; mods = 0; srcs = 0x1111; modd = 0xFFFD; dstd = 0; shift = 0x7700; lines = 1; words = 1 }
 
 -- An answer in numbers: refusal, fate, the three reasons, line and word.
 abbrev pub row : ℕ → ℕ → Bool → Bool → Bool → ℕ → ℕ → WhyAnswer
@@ -49,7 +49,7 @@ row refusal fate first last colour line word =
     record { refusal = refusal; fate = fate; first = first; last = last; colour = colour; line = line; word = word }
 
 pub record WhyExamples : Type 0 where
-  pub edges : asked edgedCopy ((0 at 0) ∷ (1 at 0) ∷ (3 at 1) ∷ (0 at 2) ∷ (1 at 2) ∷ (0 at 3) ∷ [])
+  pub edges : asked edged_copy ((0 at 0) ∷ (1 at 0) ∷ (3 at 1) ∷ (0 at 2) ∷ (1 at 2) ∷ (0 at 3) ∷ [])
       ≡ HeldBack true false false ∷ Written 0 0 ∷ Written 0 1 ∷ Written 0 2 ∷ HeldBack false true false ∷ NeverReached ∷ []
   -- On lines of one word both edges apply, and the colour test with them.
   pub one_word : asked (constant 1 0 0x1234 0x7E00 0) ((0 at 0) ∷ (1 at 0) ∷ (3 at 0) ∷ [])
@@ -62,15 +62,15 @@ pub record WhyExamples : Type 0 where
   pub written-later : asked (constant 0x0A11 1 0x000A 0xFF00 1) ((3 at 0) ∷ []) ≡ Written 1 0 ∷ []
   pub written_twice : asked (constant 0x0001 0 0xFFFF 0xFF00 1) ((0 at 0) ∷ []) ≡ Written 1 0 ∷ []
   -- The last reach's reasons are given; address 0xFFFF is word 7 of eight.
-  pub last-reach : asked linesThatMeet ((0 at 0) ∷ (0 at 1) ∷ (1 at 1) ∷ (0 at 7) ∷ (1 at 7) ∷ [])
+  pub last-reach : asked lines_that_meet ((0 at 0) ∷ (0 at 1) ∷ (1 at 1) ∷ (0 at 7) ∷ (1 at 7) ∷ [])
       ≡ HeldBack false true false ∷ HeldBack false true false ∷ Written 0 1 ∷ HeldBack true false false ∷ Written 1 0 ∷ []
   -- The memory after the first of these blits.
-  pub drawn : drawnBy edgedCopy memory ≡ 0xF123 ∷ 0x4567 ∷ 0x8FFF ∷ 0xFFFF ∷ 0x1234 ∷ 0x5678 ∷ 0x9ABC ∷ 0xFFFF ∷ []
+  pub drawn : drawn_by edged_copy memory ≡ 0xF123 ∷ 0x4567 ∷ 0x8FFF ∷ 0xFFFF ∷ 0x1234 ∷ 0x5678 ∷ 0x9ABC ∷ 0xFFFF ∷ []
   -- By the lengths: none, then 15 for a nibble or a word that is not there, then 1, also where 15 applies.
-  pub refusals : whyRefusal 256 256 (3 at 255) ∷ whyRefusal 256 256 (4 at 0) ∷ whyRefusal 256 256 (0 at 256) ∷ whyRefusal 256 512 (0 at 0)
-      ∷ whyRefusal 512 256 (0 at 0) ∷ whyRefusal 255 255 (0 at 0) ∷ whyRefusal 255 255 (4 at 0) ∷ [] ≡ 0 ∷ 15 ∷ 15 ∷ 1 ∷ 1 ∷ 1 ∷ 1 ∷ []
+  pub refusals : why_refusal 256 256 (3 at 255) ∷ why_refusal 256 256 (4 at 0) ∷ why_refusal 256 256 (0 at 256) ∷ why_refusal 256 512 (0 at 0)
+      ∷ why_refusal 512 256 (0 at 0) ∷ why_refusal 255 255 (0 at 0) ∷ why_refusal 255 255 (4 at 0) ∷ [] ≡ 0 ∷ 15 ∷ 15 ∷ 1 ∷ 1 ∷ 1 ∷ 1 ∷ []
   -- A memory of one word is refused and stays.
-  pub refused : (told edgedCopy memory (0x5678 ∷ []) (0 at 0) ≡ Refused 1) × (workAfter edgedCopy memory (0x5678 ∷ []) (0 at 0) ≡ 0x5678 ∷ [])
+  pub refused : (told edged_copy memory (0x5678 ∷ []) (0 at 0) ≡ Refused 1) × (work_after edged_copy memory (0x5678 ∷ []) (0 at 0) ≡ 0x5678 ∷ [])
   -- What a case does not have is 0 or no.
   pub cases : map numbers (Refused 15 ∷ NeverReached ∷ HeldBack true false true ∷ Written 1 2 ∷ [])
       ≡ row 15 0 false false false 0 0 ∷ row 0 1 false false false 0 0 ∷ row 0 2 true false true 0 0 ∷ row 0 3 false false false 1 2 ∷ []

@@ -4,28 +4,28 @@ use Rattle.xosera.specs.declared.BlitRegs.{BlitRegs}
 use Rattle.reasons.specs.declared.Why.{Why}
 use Rattle.reasons.specs.declared.Why.TheVariants.{Refused, NeverReached, HeldBack, Written}
 use Rattle.reasons.specs.declared.WhyAnswer.{WhyAnswer}
-use Rattle.xosera.specs.Memories.{isVramLength, Pixel, badPixel}
+use Rattle.xosera.specs.Memories.{is_vram_length, Pixel, bad_pixel}
 use Rattle.calls.specs.Refusals.{◌when◌, first}
-use Rattle.blits.specs.Blits.{drawnBy}
-use Rattle.reasons.specs.Account.{whyOf}
+use Rattle.blits.specs.Blits.{drawn_by}
+use Rattle.reasons.specs.Account.{why_of}
 
 -- 1: "either VRAM, or lengths that differ".
-unfoldable pub badMemories : ℕ → ℕ → Bool
-badMemories before work = not (isVramLength before) || not (isVramLength work) || not (eqb before work)
+unfoldable pub bad_memories : ℕ → ℕ → Bool
+bad_memories before work = not (is_vram_length before) || not (is_vram_length work) || not (eqb before work)
 
 -- "Refusals: 1 …, then 15 nibble over 3 or address not below the VRAM length".
-unfoldable pub whyRefusal : ℕ → ℕ → Pixel → ℕ
-whyRefusal before work p = first ((1 when badMemories before work) ∷ (15 when badPixel before p) ∷ [])
+unfoldable pub why_refusal : ℕ → ℕ → Pixel → ℕ
+why_refusal before work p = first ((1 when bad_memories before work) ∷ (15 when bad_pixel before p) ∷ [])
 
 -- What is answered: the account of the blit; refused, "only that".
 unfoldable pub told : BlitRegs → List ℕ → List ℕ → Pixel → Why
 told r before work p =
-    let refusal = whyRefusal (length before) (length work) p in
-    cond (eqb refusal 0) (whyOf r before p) (Refused refusal)
+    let refusal = why_refusal (length before) (length work) p in
+    cond (eqb refusal 0) (why_of r before p) (Refused refusal)
 
 -- "The second memory ends as the blit leaves it", whatever it held; refused, it is as given.
-unfoldable pub workAfter : BlitRegs → List ℕ → List ℕ → Pixel → List ℕ
-workAfter r before work p = cond (eqb (whyRefusal (length before) (length work) p) 0) (drawnBy r before) work
+unfoldable pub work_after : BlitRegs → List ℕ → List ℕ → Pixel → List ℕ
+work_after r before work p = cond (eqb (why_refusal (length before) (length work) p) 0) (drawn_by r before) work
 
 -- The number and the values of each case (document 01, "Forms for each place"), in the order of the request: 1 never reached, 2 held
 -- back, 3 written; 0 where a refusal is all that is answered. What a case does not have is 0 or no.
@@ -39,4 +39,4 @@ numbers (Written l w) = record { refusal = 0; fate = 3; first = false; last = fa
 -- and leaves the second memory so. The memory before is lent for reading.
 pub record Explains (r : BlitRegs) (before : List ℕ) (work : List ℕ) (p : Pixel) (given : WhyAnswer) (after : List ℕ) : Type 0 where
   pub answers : given ≡ numbers (told r before work p)
-  pub leaves : after ≡ workAfter r before work p
+  pub leaves : after ≡ work_after r before work p

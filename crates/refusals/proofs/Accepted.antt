@@ -6,12 +6,12 @@ use borrow.Author.Tests.{ltb-true, not-false}
 use lib.Dec.{ltb}
 use Rattle.xosera.specs.Adapter.{Adapter}
 use Rattle.xosera.specs.Events.{write, read, beam, call, step, run}
-use Rattle.calls.specs.Refusals.{Fit, badRegister, tests, refusal}
+use Rattle.calls.specs.Refusals.{Fit, bad_register, tests, refusal}
 use Rattle.calls.proofs.RefusalLaws.{accepted-none, lent-fit}
 
 module _ (a : Adapter) where
   pub write-fit : (r : ℕ) (odd : Bool) (b : ℕ) → refusal a (call (write r odd b)) ≡ 0 → Fit a × (r < 16)
-  unfolding tests badRegister
+  unfolding tests bad_register
   write-fit r odd b h =
       (lent-fit a (call (write r odd b)) refl h, ltb-true r 16 (not-false (ltb r 16) (accepted-none a (call (write r odd b)) 3 h)))
 

@@ -7,13 +7,13 @@ use native.Mathlib.Omega.{arith}
 use borrow.Author.Tests.{le-ltb, lt-ltb}
 use lib.ListN.{length}
 use Rattle.xosera.specs.State.{State}
-use Rattle.xosera.specs.Memories.{isVramLength, isXrLength}
+use Rattle.xosera.specs.Memories.{is_vram_length, is_xr_length}
 use Rattle.xosera.specs.Adapter.{adapter}
 use Rattle.xosera.specs.Events.{Call, write, read, tick, beam, line, call, step, run}
 use Rattle.xosera.specs.Ranges.{in_range}
-use Rattle.calls.specs.Refusals.{badVram, badXr, badState, Fit, badRegister, blitterFull, reconfigures, Test, ◌when◌, lentTests, tests, first, refusal}
+use Rattle.calls.specs.Refusals.{bad_vram, bad_xr, bad_state, Fit, bad_register, blitter_full, reconfigures, Test, ◌when◌, lent_tests, tests, first, refusal}
 use Rattle.calls.proofs.RefusalLaws.{none-fit}
-use Rattle.refusals.specs.Tested.{lengthsRefusal, lentRefusal}
+use Rattle.refusals.specs.Tested.{lengths_refusal, lent_refusal}
 
 abbrev three : Bool → Bool → Bool → List Test → List Test
 three a b c more = (1 when a) ∷ (2 when b) ∷ (3 when c) ∷ more
@@ -34,18 +34,18 @@ three-passed false false false more e = refl
 
 -- The lengths first, then the state.
 module _ (n m : ℕ) (s : State) {r : ℕ} where
-  pub lengths-first : r ≡ lengthsRefusal n m → (r ≡ 0 → ⊥) → r ≡ lentRefusal n m s
-  unfolding lengthsRefusal lentRefusal first
-  lengths-first h d = go (not (isVramLength n)) (not (isXrLength m)) h
+  pub lengths-first : r ≡ lengths_refusal n m → (r ≡ 0 → ⊥) → r ≡ lent_refusal n m s
+  unfolding lengths_refusal lent_refusal first
+  lengths-first h d = go (not (is_vram_length n)) (not (is_xr_length m)) h
     where
       go : (a b : Bool) → r ≡ first ((1 when a) ∷ (2 when b) ∷ []) → r ≡ first (three a b (not (in_range s)) [])
       go true b e = e
       go false true e = e
       go false false e = absurd (d e)
 
-  pub lengths-passed : r ≡ lengthsRefusal n m → r ≡ 0 → first ((3 when not (in_range s)) ∷ []) ≡ lentRefusal n m s
-  unfolding lengthsRefusal lentRefusal first
-  lengths-passed h z = go (not (isVramLength n)) (not (isXrLength m)) (sym h ∙ z)
+  pub lengths-passed : r ≡ lengths_refusal n m → r ≡ 0 → first ((3 when not (in_range s)) ∷ []) ≡ lent_refusal n m s
+  unfolding lengths_refusal lent_refusal first
+  lengths-passed h z = go (not (is_vram_length n)) (not (is_xr_length m)) (sym h ∙ z)
     where
       go : (a b : Bool) → first ((1 when a) ∷ (2 when b) ∷ []) ≡ 0
           → first ((3 when not (in_range s)) ∷ []) ≡ first (three a b (not (in_range s)) [])
@@ -60,40 +60,40 @@ pub data OfState : Call → Type 0 where
 
 module _ (s : State) (v x : List ℕ) where
   pub state-refusal : {c : Call} → OfState c → refusal (adapter s v x) (call c) ≡ first ((3 when not (in_range s)) ∷ [])
-  unfolding refusal tests badState
+  unfolding refusal tests bad_state
   state-refusal a-tick = refl
   state-refusal a-line = refl
 
-  pub step-refusal : refusal (adapter s v x) step ≡ lentRefusal (length v) (length x) s
-  unfolding refusal tests badVram badXr badState lentRefusal
+  pub step-refusal : refusal (adapter s v x) step ≡ lent_refusal (length v) (length x) s
+  unfolding refusal tests bad_vram bad_xr bad_state lent_refusal
   step-refusal = refl
 
-  pub beam-refusal : refusal (adapter s v x) (call beam) ≡ lentRefusal (length v) (length x) s
-  unfolding refusal tests badVram badXr badState lentRefusal
+  pub beam-refusal : refusal (adapter s v x) (call beam) ≡ lent_refusal (length v) (length x) s
+  unfolding refusal tests bad_vram bad_xr bad_state lent_refusal
   beam-refusal = refl
 
-  pub run-refusal : (n : ℕ) → refusal (adapter s v x) (run n) ≡ lentRefusal (length v) (length x) s
-  unfolding refusal tests badVram badXr badState lentRefusal
+  pub run-refusal : (n : ℕ) → refusal (adapter s v x) (run n) ≡ lent_refusal (length v) (length x) s
+  unfolding refusal tests bad_vram bad_xr bad_state lent_refusal
   run-refusal n = refl
 
   -- The tests that follow in a read and in a write.
-  abbrev pub ofRead : ℕ → List Test
-  ofRead r = (4 when badRegister r) ∷ []
+  abbrev pub of_read : ℕ → List Test
+  of_read r = (4 when bad_register r) ∷ []
 
-  abbrev pub ofWrite : ℕ → Bool → ℕ → List Test
-  ofWrite r odd b = (4 when badRegister r) ∷ (5 when blitterFull (adapter s v x) r odd) ∷ (6 when reconfigures (adapter s v x) r odd b) ∷ []
+  abbrev pub of_write : ℕ → Bool → ℕ → List Test
+  of_write r odd b = (4 when bad_register r) ∷ (5 when blitter_full (adapter s v x) r odd) ∷ (6 when reconfigures (adapter s v x) r odd b) ∷ []
 
   -- With the lengths and the first three as the code has them.
-  module _ {m n lent : ℕ} (p : length v ≡ m) (q : length x ≡ n) (h : lent ≡ lentRefusal m n s) where
-    lent_is : lent ≡ lentRefusal (length v) (length x) s
-    lent_is = h ∙ ap₂ (λ (k l : ℕ). lentRefusal k l s) (sym p) (sym q)
+  module _ {m n lent : ℕ} (p : length v ≡ m) (q : length x ≡ n) (h : lent ≡ lent_refusal m n s) where
+    lent_is : lent ≡ lent_refusal (length v) (length x) s
+    lent_is = h ∙ ap₂ (λ (k l : ℕ). lent_refusal k l s) (sym p) (sym q)
 
-    pub lent-first : (more : List Test) → (lent ≡ 0 → ⊥) → lent ≡ first (lentTests (adapter s v x) more)
-    unfolding lentRefusal badVram badXr badState
+    pub lent-first : (more : List Test) → (lent ≡ 0 → ⊥) → lent ≡ first (lent_tests (adapter s v x) more)
+    unfolding lent_refusal bad_vram bad_xr bad_state
     lent-first more d = lent_is ∙ three-first _ _ _ more (λ z. d (lent_is ∙ z))
 
-    pub lent-passed : (more : List Test) → lent ≡ 0 → first (lentTests (adapter s v x) more) ≡ first more
-    unfolding lentRefusal badVram badXr badState
+    pub lent-passed : (more : List Test) → lent ≡ 0 → first (lent_tests (adapter s v x) more) ≡ first more
+    unfolding lent_refusal bad_vram bad_xr bad_state
     lent-passed more z = three-passed _ _ _ more (sym lent_is ∙ z)
 
     pub passed-fit : lent ≡ 0 → Fit (adapter s v x)
@@ -102,40 +102,40 @@ module _ (s : State) (v x : List ℕ) where
 
     pub read_first : (r : ℕ) (odd : Bool) → (lent ≡ 0 → ⊥) → lent ≡ refusal (adapter s v x) (call (read r odd))
     unfolding refusal tests
-    read_first r odd d = lent-first (ofRead r) d
+    read_first r odd d = lent-first (of_read r) d
 
     pub write-first : (r : ℕ) (odd : Bool) (b : ℕ) → (lent ≡ 0 → ⊥) → lent ≡ refusal (adapter s v x) (call (write r odd b))
     unfolding refusal tests
-    write-first r odd b d = lent-first (ofWrite r odd b) d
+    write-first r odd b d = lent-first (of_write r odd b) d
 
     -- None of the three applies: then the register's number, and in a write the byte.
     module _ (z : lent ≡ 0) (r : ℕ) where
       pub read-over : (odd : Bool) → 16 ≤ r → 4 ≡ refusal (adapter s v x) (call (read r odd))
-      unfolding refusal tests badRegister first
-      read-over odd m = sym (lent-passed (ofRead r) z ∙ rw (le-ltb r 16 m))
+      unfolding refusal tests bad_register first
+      read-over odd m = sym (lent-passed (of_read r) z ∙ rw (le-ltb r 16 m))
 
       pub read_done : (odd : Bool) → r < 16 → 0 ≡ refusal (adapter s v x) (call (read r odd))
-      unfolding refusal tests badRegister first
-      read_done odd m = sym (lent-passed (ofRead r) z ∙ rw (lt-ltb r 16 m))
+      unfolding refusal tests bad_register first
+      read_done odd m = sym (lent-passed (of_read r) z ∙ rw (lt-ltb r 16 m))
 
       pub write-over : (odd : Bool) (b : ℕ) → 16 ≤ r → 4 ≡ refusal (adapter s v x) (call (write r odd b))
-      unfolding refusal tests badRegister first
-      write-over odd b m = sym (lent-passed (ofWrite r odd b) z ∙ rw (le-ltb r 16 m))
+      unfolding refusal tests bad_register first
+      write-over odd b m = sym (lent-passed (of_write r odd b) z ∙ rw (le-ltb r 16 m))
 
       pub write-even : (odd : Bool) (b : ℕ) → r < 16 → odd ≡ false → 0 ≡ refusal (adapter s v x) (call (write r odd b))
-      unfolding refusal tests badRegister blitterFull reconfigures first
-      write-even odd b m e = sym (lent-passed (ofWrite r odd b) z ∙ rw (lt-ltb r 16 m, e))
+      unfolding refusal tests bad_register blitter_full reconfigures first
+      write-even odd b m e = sym (lent-passed (of_write r odd b) z ∙ rw (lt-ltb r 16 m, e))
 
       pub write-odd : (odd : Bool) (b : ℕ) → r < 16 → odd ≡ true
-          → first ((5 when blitterFull (adapter s v x) r true) ∷ (6 when reconfigures (adapter s v x) r true b) ∷ []) ≡
+          → first ((5 when blitter_full (adapter s v x) r true) ∷ (6 when reconfigures (adapter s v x) r true b) ∷ []) ≡
           refusal (adapter s v x) (call (write r odd b))
-      unfolding refusal tests badRegister first
-      write-odd odd b m e = sym (lent-passed (ofWrite r odd b) z ∙ rw (lt-ltb r 16 m, e))
+      unfolding refusal tests bad_register first
+      write-odd odd b m e = sym (lent-passed (of_write r odd b) z ∙ rw (lt-ltb r 16 m, e))
 
 -- The state is in range where none of the three applies.
-pub lent-in-range : (n m : ℕ) (s : State) → lentRefusal n m s ≡ 0 → in_range s ≡ true
-unfolding lentRefusal first
-lent-in-range n m s h = go (not (isVramLength n)) (not (isXrLength m)) (in_range s) h
+pub lent-in-range : (n m : ℕ) (s : State) → lent_refusal n m s ≡ 0 → in_range s ≡ true
+unfolding lent_refusal first
+lent-in-range n m s h = go (not (is_vram_length n)) (not (is_xr_length m)) (in_range s) h
   where
     go : (a b c : Bool) → first (three a b (not c) []) ≡ 0 → c ≡ true
     go a b true e = refl

@@ -1,24 +1,24 @@
 // The pixels of a row of playfield A, painted to a part of a line.
 ghost use Rattle.std.specs.Prelude.{◌≡◌, ℕ, ◌<◌, ◌≤◌, min, true, length, slice_index};
-ghost use Rattle.xosera.specs.Fields.{hRepeat};
-ghost use Rattle.xosera.specs.Memories.{isVramLength};
-ghost use Rattle.scanline.specs.Scanline.{pixelAt, fourBits, pixelsInWord, pixelIndex};
+ghost use Rattle.xosera.specs.Fields.{h_repeat};
+ghost use Rattle.xosera.specs.Memories.{is_vram_length};
+ghost use Rattle.scanline.specs.Scanline.{pixel_at, four_bits, pixels_in_word, pixel_index};
 ghost use Rattle.row_pixels.specs.Fills.{Fills};
-ghost use Rattle.row_pixels.specs.RowParts.{PaintsPixel, PaintsPixels, WindowPart, pixelColour};
+ghost use Rattle.row_pixels.specs.RowParts.{PaintsPixel, PaintsPixels, WindowPart, pixel_colour};
 
 use scanline::Playfield;
 use xosera::VramAddr;
 
 // Whether a pixel has four bits.
 pub fn four_bits(p: Playfield) -> bool
-    ensures { result ≡ fourBits p }
+    ensures { result ≡ four_bits p }
 {
     fields::pixel_depth(p.gfx) == 1
 }
 
 // The colour index that a word has for a pixel of its row.
 fn pixel_index(p: Playfield, word: u16, pixel: u16) -> u8
-    ensures { result ≡ pixelIndex p word pixel }
+    ensures { result ≡ pixel_index p word pixel }
 {
     if four_bits(p) {
         return fields::colour_base(p.gfx) / 16 * 16 + ((word >> (12 - pixel % 4 * 4)) % 16) as u8;
@@ -67,7 +67,7 @@ fn paint_pixel(
     requires colours_len { length colours.now ≡ 256 }
     requires x_le_to { x ≤ to }
     requires to_in_bounds { to ≤ length pixels.old }
-    ensures { PaintsPixel x to (hRepeat p.gfx) (slice_index colours.now (pixelIndex p word pixel)) result pixels.old
+    ensures { PaintsPixel x to (h_repeat p.gfx) (slice_index colours.now (pixel_index p word pixel)) result pixels.old
         pixels.new }
 {
     let colour = colour(colours, pixel_index(p, word, pixel));
@@ -88,7 +88,7 @@ fn paint_word(
     requires colours_len { length colours.now ≡ 256 }
     requires x_le_to { x ≤ to }
     requires to_in_bounds { to ≤ length pixels.old }
-    ensures { PaintsPixels p colours.now word (pixelsInWord p) x to result pixels.old pixels.new }
+    ensures { PaintsPixels p colours.now word (pixels_in_word p) x to result pixels.old pixels.new }
 {
     let second = paint_pixel(p, colours, word, 0, pixels, x, to);
     let third = paint_pixel(p, colours, word, 1, pixels, second, to);
@@ -109,11 +109,11 @@ pub fn paint_window(
     from: usize,
     to: usize,
 )
-    requires vram_value { isVramLength (length vram.now) ≡ true }
+    requires vram_value { is_vram_length (length vram.now) ≡ true }
     requires colours_len { length colours.now ≡ 256 }
     requires row_bound { row.0 < 65536 }
     requires window_part { WindowPart p (length pixels.old) from to }
-    ensures { Fills from to (λ (x : ℕ). pixelColour p vram.now colours.now row.0 (pixelAt p x)) pixels.old
+    ensures { Fills from to (λ (x : ℕ). pixel_colour p vram.now colours.now row.0 (pixel_at p x)) pixels.old
         pixels.new }
 {
     let mut x = from;

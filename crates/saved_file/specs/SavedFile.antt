@@ -1,10 +1,10 @@
 -- A saved adapter as a file of bytes (document 02, requests 1 and 3). A file is 28 bytes of contents and the bodies of three
 -- sections; docs/SAVED.md has its places in a table.
 use Rattle.std.specs.Prelude.{Bool, true, false, ◌&&◌, List, [], ◌∷◌, ◌++◌, map, ℕ, suc, ◌+◌, ◌*◌, ◌/◌, ◌%◌, eqb, length, take, drop}
-use Rattle.xosera.specs.State.{beamWords, registerWords}
-use Rattle.xosera.specs.Adapter.{Adapter, adapterAt, state_of}
+use Rattle.xosera.specs.State.{beam_words, register_words}
+use Rattle.xosera.specs.Adapter.{Adapter, adapter_at, state_of}
 use Rattle.xosera.specs.Beam.{rest}
-use Rattle.calls.specs.Refusals.{lentTests, first}
+use Rattle.calls.specs.Refusals.{lent_tests, first}
 
 -- "All numbers have the high byte first": words as bytes.
 unfoldable pub bytes_of : List ℕ → List ℕ
@@ -30,13 +30,13 @@ joined [] = []
 joined (body ∷ more) = body ++ joined more
 
 -- A file: contents, then bodies.
-unfoldable pub fileOf : List (List ℕ) → List ℕ
-fileOf bodies = contents (map length bodies) ++ joined bodies
+unfoldable pub file_of : List (List ℕ) → List ℕ
+file_of bodies = contents (map length bodies) ++ joined bodies
 
 -- The file of an adapter: "kind 1 the state, in an order fixed in docs/; 2 XR memory; 3 VRAM". Beam and copper are not in it: only
 -- an adapter that has them at rest is saved (request 3).
 unfoldable pub saved : Adapter → List ℕ
-saved a = fileOf (bytes_of (registerWords (state_of a)) ∷ bytes_of a.side.xr ∷ bytes_of a.vram ∷ [])
+saved a = file_of (bytes_of (register_words (state_of a)) ∷ bytes_of a.side.xr ∷ bytes_of a.vram ∷ [])
 
 -- Bytes as words; a last byte by itself is left out.
 unfoldable pub words_of : List ℕ → List ℕ
@@ -45,22 +45,22 @@ words_of (b ∷ []) = []
 words_of (h ∷ l ∷ more) = (h * 256 + l) ∷ words_of more
 
 -- The words of a state by the body of its section: behind those in the file, beam and copper at rest "after … a load" (request 3).
-unfoldable pub heldWords : List ℕ → List ℕ
-heldWords body = words_of body ++ beamWords rest
+unfoldable pub held_words : List ℕ → List ℕ
+held_words body = words_of body ++ beam_words rest
 
 -- The adapter that stands in any bytes where that of a saved adapter does: the state at byte 28, 150 bytes long, XR memory at 178,
 -- 13,312 bytes long, and VRAM from byte 13,490 on.
 unfoldable pub held : List ℕ → Adapter
-held file = adapterAt (heldWords (take 150 (drop 28 file))) (words_of (drop 13490 file)) (words_of (take 13312 (drop 178 file)))
+held file = adapter_at (held_words (take 150 (drop 28 file))) (words_of (drop 13490 file)) (words_of (take 13312 (drop 178 file)))
 
 -- Equal byte for byte.
-unfoldable pub sameBytes : List ℕ → List ℕ → Bool
-sameBytes [] [] = true
-sameBytes [] (c ∷ cs) = false
-sameBytes (b ∷ bs) [] = false
-sameBytes (b ∷ bs) (c ∷ cs) = eqb b c && sameBytes bs cs
+unfoldable pub same_bytes : List ℕ → List ℕ → Bool
+same_bytes [] [] = true
+same_bytes [] (c ∷ cs) = false
+same_bytes (b ∷ bs) [] = false
+same_bytes (b ∷ bs) (c ∷ cs) = eqb b c && same_bytes bs cs
 
 -- A saved adapter: the adapter that stands in these bytes has them as its file, and none of 1 to 3 applies to that adapter ("one
 -- adapter has one file"; "any other file is refused").
-unfoldable pub isSaved : List ℕ → Bool
-isSaved file = sameBytes (saved (held file)) file && eqb (first (lentTests (held file) [])) 0
+unfoldable pub is_saved : List ℕ → Bool
+is_saved file = same_bytes (saved (held file)) file && eqb (first (lent_tests (held file) [])) 0

@@ -6,46 +6,46 @@ use native.Mathlib.Omega.{arith}
 use borrow.Author.Tests.{eq-eqb, ne_eqb}
 use lib.ListN.{length, take, drop}
 use lib.Seq.{take-append_seam, drop-append_seam}
-use Rattle.xosera.specs.State.{stateWords}
+use Rattle.xosera.specs.State.{state_words}
 use Rattle.xosera.specs.Adapter.{Adapter}
 use Rattle.xosera.specs.Events.{Answer}
 use Rattle.calls.specs.Refusals.{Fit}
 use Rattle.xosera.proofs.Branches.{cond_yes, cond_no}
 use Rattle.calls.proofs.RefusalLaws.{none-fit}
 use Rattle.saved_file.specs.SavedFile.{saved}
-use Rattle.saved_file.specs.SaveLoad.{saveRefusal, saveAnswer, roomAfter, loadRefusal, loadAnswer, loaded, Saves, Loads}
-use Rattle.saved_file.specs.Claims.{AllBelow, Words, adapterOf, Resting, NoAdapters, Stored, SavesAndLoads}
+use Rattle.saved_file.specs.SaveLoad.{save_refusal, save_answer, room_after, load_refusal, load_answer, loaded, Saves, Loads}
+use Rattle.saved_file.specs.Claims.{AllBelow, Words, adapter_of, Resting, NoAdapters, Stored, SavesAndLoads}
 use Rattle.saved_file.proofs.SavedAdapters.{done-rests, saved-loads, same-words, same-file, accepted-file}
 use Rattle.saved_file.proofs.SavedAdapters.{other-file, loaded-fit, loaded-rests, room-enough, off_rest, refused-save, refused-load}
 
-abbrev refusalOf : Answer → ℕ
-refusalOf a = a.refusal
+abbrev refusal_of : Answer → ℕ
+refusal_of a = a.refusal
 
 abbrev value_of : Answer → ℕ
 value_of a = a.value
 
 -- A save by its definitions.
 module _ {a : Adapter} {room : List ℕ} {told : Answer} {after : List ℕ} (s : Saves a room told after) where
-  save-told : told.refusal ≡ saveRefusal a room
-  unfolding saveAnswer
-  save-told = ap refusalOf s.answers
+  save-told : told.refusal ≡ save_refusal a room
+  unfolding save_answer
+  save-told = ap refusal_of s.answers
 
   -- Not refused.
   module _ (h : told.refusal ≡ 0) where
-    none : saveRefusal a room ≡ 0
+    none : save_refusal a room ≡ 0
     none = sym save-told ∙ h
 
     fit : Fit a
-    unfolding saveRefusal
+    unfolding save_refusal
     fit = none-fit a _ none
 
     rests : Resting a
     rests = done-rests a room none
 
     stored : Stored a room told after
-    unfolding saveAnswer roomAfter
+    unfolding save_answer room_after
     stored =
-        let yes = eq-eqb (saveRefusal a room) 0 none in
+        let yes = eq-eqb (save_refusal a room) 0 none in
         let long = ap value_of s.answers ∙ cond_yes (length (saved a)) 0 yes in
         let all = s.leaves ∙ cond_yes (saved a ++ drop (length (saved a)) room) room yes in
         record {
@@ -55,9 +55,9 @@ module _ {a : Adapter} {room : List ℕ} {told : Answer} {after : List ℕ} (s :
         }
 
   unsaved : (told.refusal ≡ 0 → ⊥) → (told.value ≡ 0) × (after ≡ room)
-  unfolding saveAnswer
+  unfolding save_answer
   unsaved n =
-      let isnt : saveRefusal a room ≡ 0 → ⊥ = λ z. n (save-told ∙ z) in
+      let isnt : save_refusal a room ≡ 0 → ⊥ = λ z. n (save-told ∙ z) in
       (ap value_of s.answers ∙ cond_no (length (saved a)) 0 (ne_eqb _ 0 isnt), s.leaves ∙ refused-save a room isnt)
 
   off : Fit a → (Resting a → ⊥) → length (saved a) ≤ length room → (told.refusal ≡ 10) × (told.value ≡ 0) × (after ≡ room)
@@ -68,9 +68,9 @@ module _ {a : Adapter} {room : List ℕ} {told : Answer} {after : List ℕ} (s :
 
 -- A load by its definitions.
 module _ {a : Adapter} {file : List ℕ} {told : Answer} {b : Adapter} (l : Loads a file told b) where
-  load_told : told.refusal ≡ loadRefusal a file
-  unfolding loadAnswer
-  load_told = ap refusalOf l.answers
+  load_told : told.refusal ≡ load_refusal a file
+  unfolding load_answer
+  load_told = ap refusal_of l.answers
 
   unloaded : (told.refusal ≡ 0 → ⊥) → b ≡ a
   unloaded n = l.leaves ∙ refused-load a file (λ z. n (load_told ∙ z))
@@ -85,7 +85,7 @@ module _ {a : Adapter} {file : List ℕ} {told : Answer} {b : Adapter} (l : Load
 
   -- What a load that is done gives is fit and at rest.
   gives-fit : told.refusal ≡ 0 → Fit b
-  unfolding loaded loadRefusal
+  unfolding loaded load_refusal
   gives-fit h =
       let zero = sym load_told ∙ h in
       subst Fit (sym l.leaves) (loaded-fit a file (none-fit a _ zero))
@@ -94,14 +94,14 @@ module _ {a : Adapter} {file : List ℕ} {told : Answer} {b : Adapter} (l : Load
   gives-rest h = subst Resting (sym l.leaves) (loaded-rests a file (sym load_told ∙ h))
 
 save-then-load : (w u : Words) (room : List ℕ) (told : Answer) (after : List ℕ) (a : Adapter) (answer : Answer)
-    → length w.state ≡ stateWords → length u.state ≡ stateWords
-    → Saves (adapterOf w) room told after → told.refusal ≡ 0
-    → Fit a → length a.vram ≡ length w.vram → Loads a (take told.value after) answer (adapterOf u)
+    → length w.state ≡ state_words → length u.state ≡ state_words
+    → Saves (adapter_of w) room told after → told.refusal ≡ 0
+    → Fit a → length a.vram ≡ length w.vram → Loads a (take told.value after) answer (adapter_of u)
     → (answer.refusal ≡ 0) × (u ≡ w)
 save-then-load w u room told after a answer p q s h f size l =
     let file = (stored s h).file in
     let back = saved-loads w a (fit s h) (rests s h) f size in
-    (load_told l ∙ ap (loadRefusal a) file ∙ back.0, same-words u w q p (l.leaves ∙ ap (loaded a) file ∙ back.1))
+    (load_told l ∙ ap (load_refusal a) file ∙ back.0, same-words u w q p (l.leaves ∙ ap (loaded a) file ∙ back.1))
 
 load-then-save : (a : Adapter) (file : List ℕ) (told : Answer) (b : Adapter) (room : List ℕ) (answer : Answer) (after : List ℕ)
     → Loads a file told b → told.refusal ≡ 0 → length file ≤ length room → Saves b room answer after

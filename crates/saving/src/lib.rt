@@ -1,11 +1,11 @@
 // Save and load: the two calls that turn an adapter into a file and back. Each works or gives the one refusal that applies and
 // changes nothing.
 ghost use Rattle.std.specs.Prelude.{◌≡◌};
-ghost use Rattle.xosera.specs.State.{stateAt};
-ghost use Rattle.xosera.specs.Adapter.{adapterAt};
-ghost use Rattle.xosera.specs.Beam.{atRest};
+ghost use Rattle.xosera.specs.State.{state_at};
+ghost use Rattle.xosera.specs.Adapter.{adapter_at};
+ghost use Rattle.xosera.specs.Beam.{at_rest};
 ghost use Rattle.xosera.specs.Events.{Untouched};
-ghost use Rattle.saved_file.specs.SaveLoad.{ofSave, ofLoad, Saves, Loads};
+ghost use Rattle.saved_file.specs.SaveLoad.{of_save, of_load, Saves, Loads};
 
 use file_bytes::VRAM_START;
 use xosera::{
@@ -14,7 +14,7 @@ use xosera::{
 
 // Whether beam and copper are at rest.
 fn at_rest(s: &[u16; STATE_WORDS]) -> bool
-    ensures { result ≡ atRest (stateAt s.now).beam }
+    ensures { result ≡ at_rest (state_at s.now).beam }
 {
     if s[BEAM_LINE] != 0 {
         return false;
@@ -30,7 +30,7 @@ fn at_rest(s: &[u16; STATE_WORDS]) -> bool
 
 // Saves an adapter to a room of bytes: refusals 1 to 3, then 7, then 10.
 pub fn save(s: &[u16; STATE_WORDS], vram: &[u16], xr: &[u16], room: &mut [u8]) -> SaveAnswer
-    ensures { Saves (adapterAt s.now vram.now xr.now) room.old (ofSave result) room.new }
+    ensures { Saves (adapter_at s.now vram.now xr.now) room.old (of_save result) room.new }
 {
     let registers = ranges::registers_in_range(s);
     let beam = ranges::beam_in_range(s);
@@ -60,9 +60,9 @@ pub fn save(s: &[u16; STATE_WORDS], vram: &[u16], xr: &[u16], room: &mut [u8]) -
 
 // Loads an adapter from a file.
 pub fn load(s: &mut [u16; STATE_WORDS], vram: &mut [u16], xr: &mut [u16], file: &[u8]) -> LoadAnswer
-    ensures done { Loads (adapterAt s.old vram.old xr.old) file.now (ofLoad result)
-        (adapterAt s.new vram.new xr.new) }
-    ensures refused { Untouched (ofLoad result) s.old s.new }
+    ensures done { Loads (adapter_at s.old vram.old xr.old) file.now (of_load result)
+        (adapter_at s.new vram.new xr.new) }
+    ensures refused { Untouched (of_load result) s.old s.new }
 {
     let registers = ranges::registers_in_range(s);
     let beam = ranges::beam_in_range(s);

@@ -1,13 +1,13 @@
 -- The examples hold: antt computes them.
 use mathlib.Core.Path.{refl}
 use Rattle.calls.proofs.ComputingCalls.{computing-calls}
-use Rattle.scanline.specs.Scanline.{playfieldA, rowStart, inWindow, pixelAt, pixelsInWord, pixelAddress, pixelIndex, colourIndex, colour, across, painted}
-use Rattle.scanline.specs.PaintCall.{notPaintable, badLine, otherWidth, paintRefusal, pixelsAfter}
+use Rattle.scanline.specs.Scanline.{playfield_a, row_start, in_window, pixel_at, pixels_in_word, pixel_address, pixel_index, colour_index, colour, across, painted}
+use Rattle.scanline.specs.PaintCall.{not_paintable, bad_line, other_width, paint_refusal, pixels_after}
 use Rattle.scanline.specs.Examples.{ScanlineExamples}
 
 pub scanline-examples : ScanlineExamples
-unfolding computing-calls playfieldA rowStart inWindow pixelAt pixelsInWord pixelAddress pixelIndex colourIndex colour across painted
-    notPaintable badLine otherWidth paintRefusal pixelsAfter
+unfolding computing-calls playfield_a row_start in_window pixel_at pixels_in_word pixel_address pixel_index colour_index colour across painted
+    not_paintable bad_line other_width paint_refusal pixels_after
 scanline-examples = record {
   taken = refl;
   four-bits = refl;

@@ -6,16 +6,16 @@ use native.Mathlib.Omega.{arith}
 use lib.ListN.{length, get_or}
 use lib.Seq.{ext_get_or}
 use Rattle.scanline.specs.declared.Playfield.{Playfield}
-use Rattle.xosera.specs.State.{wordsFrom}
-use Rattle.xosera.specs.Fields.{hRepeat}
+use Rattle.xosera.specs.State.{words_from}
+use Rattle.xosera.specs.Fields.{h_repeat}
 use Rattle.xosera.proofs.Quotients.{quotient}
-use Rattle.scanline.specs.Scanline.{pixelAt, across}
+use Rattle.scanline.specs.Scanline.{pixel_at, across}
 
-from-length : (n at : ℕ) (f : ℕ → ℕ) → length (wordsFrom n at f) ≡ n
+from-length : (n at : ℕ) (f : ℕ → ℕ) → length (words_from n at f) ≡ n
 from-length zero at f = refl
 from-length (suc n) at f = ap suc (from-length n (suc at) f)
 
-from_at : (n at : ℕ) (f : ℕ → ℕ) (x : ℕ) → x < n → get_or (wordsFrom n at f) x 0 ≡ f (at + x)
+from_at : (n at : ℕ) (f : ℕ → ℕ) (x : ℕ) → x < n → get_or (words_from n at f) x 0 ≡ f (at + x)
 from_at zero at f x h = absurd (omega arith)
 from_at (suc n) at f zero h = ap f (omega arith)
 from_at (suc n) at f (suc x) h = from_at n (suc at) f x (omega arith) ∙ ap f (omega arith)
@@ -39,10 +39,10 @@ pub across-same : (n : ℕ) (f g : ℕ → ℕ) → ((x : ℕ) → x < n → f x
 across-same n f g same = across-all n (across n f) g (across-length n f) (λ x k. across-at n f x k ∙ same x k)
 
 -- The pixel that is seen r native pixels behind k whole ones.
-pub pixel-there : (p : Playfield) (k r x : ℕ) → x ≡ p.left + k * hRepeat p.gfx + r → r < hRepeat p.gfx → pixelAt p x ≡ k
-unfolding pixelAt
+pub pixel-there : (p : Playfield) (k r x : ℕ) → x ≡ p.left + k * h_repeat p.gfx + r → r < h_repeat p.gfx → pixel_at p x ≡ k
+unfolding pixel_at
 pixel-there p k r x e h =
-    ap (λ (n : ℕ). n / hRepeat p.gfx) (behind p.left (k * hRepeat p.gfx) e) ∙ quotient k (hRepeat p.gfx) r h
+    ap (λ (n : ℕ). n / h_repeat p.gfx) (behind p.left (k * h_repeat p.gfx) e) ∙ quotient k (h_repeat p.gfx) r h
   where
     behind : (left m : ℕ) → x ≡ left + m + r → x - left ≡ m + r
     behind left m e = omega arith

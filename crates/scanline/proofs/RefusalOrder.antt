@@ -9,37 +9,37 @@ use Rattle.scanline.specs.declared.Playfield.{Playfield}
 use Rattle.xosera.specs.Adapter.{Adapter}
 use Rattle.calls.specs.Refusals.{Fit, ◌when◌, first}
 use Rattle.calls.proofs.RefusalLaws.{passed, none-fit, fit-passes}
-use Rattle.scanline.specs.Scanline.{playfieldA}
-use Rattle.scanline.specs.PaintCall.{screenWidth, notPaintable, badLine, otherWidth, paintTests, paintRefusal}
+use Rattle.scanline.specs.Scanline.{playfield_a}
+use Rattle.scanline.specs.PaintCall.{screen_width, not_paintable, bad_line, other_width, paint_tests, paint_refusal}
 use Rattle.scanline.specs.Claims.{PaintRefusals}
 
 -- Each test that follows 1 to 3.
-pub line-visible : (line : ℕ) → line ≤ 479 → badLine line ≡ false
-unfolding badLine
+pub line-visible : (line : ℕ) → line ≤ 479 → bad_line line ≡ false
+unfolding bad_line
 line-visible line h = le-ltb 479 line h
 
-pub line-hidden : (line : ℕ) → 479 < line → badLine line ≡ true
-unfolding badLine
+pub line-hidden : (line : ℕ) → 479 < line → bad_line line ≡ true
+unfolding bad_line
 line-hidden line h = lt-ltb 479 line h
 
-pub width-right : (n : ℕ) → n ≡ screenWidth → otherWidth n ≡ false
-unfolding otherWidth
-width-right n e = ap not (eq-eqb n screenWidth e)
+pub width-right : (n : ℕ) → n ≡ screen_width → other_width n ≡ false
+unfolding other_width
+width-right n e = ap not (eq-eqb n screen_width e)
 
-pub width-wrong : (n : ℕ) → (n ≡ screenWidth → ⊥) → otherWidth n ≡ true
-unfolding otherWidth
-width-wrong n d = ap not (ne_eqb n screenWidth d)
+pub width-wrong : (n : ℕ) → (n ≡ screen_width → ⊥) → other_width n ≡ true
+unfolding other_width
+width-wrong n d = ap not (ne_eqb n screen_width d)
 
 -- What these tests give, by what each of them says.
-pub tests-given : (p : Playfield) (line n : ℕ) {b c d : Bool} → notPaintable p ≡ b → badLine line ≡ c → otherWidth n ≡ d
-    → first (paintTests p line n) ≡ first ((11 when b) ∷ (12 when c) ∷ (13 when d) ∷ [])
+pub tests-given : (p : Playfield) (line n : ℕ) {b c d : Bool} → not_paintable p ≡ b → bad_line line ≡ c → other_width n ≡ d
+    → first (paint_tests p line n) ≡ first ((11 when b) ∷ (12 when c) ∷ (13 when d) ∷ [])
 tests-given p line n e f g = λ i. first ((11 when e i) ∷ (12 when f i) ∷ (13 when g i) ∷ [])
 
 module _ (a : Adapter) (line n : ℕ) (fit : Fit a) where
-  given : {b c d : Bool} → notPaintable (playfieldA a.side.video) ≡ b → badLine line ≡ c → otherWidth n ≡ d
-      → paintRefusal a line n ≡ first ((11 when b) ∷ (12 when c) ∷ (13 when d) ∷ [])
-  unfolding paintRefusal
-  given e f g = fit-passes a fit _ ∙ tests-given (playfieldA a.side.video) line n e f g
+  given : {b c d : Bool} → not_paintable (playfield_a a.side.video) ≡ b → bad_line line ≡ c → other_width n ≡ d
+      → paint_refusal a line n ≡ first ((11 when b) ∷ (12 when c) ∷ (13 when d) ∷ [])
+  unfolding paint_refusal
+  given e f g = fit-passes a fit _ ∙ tests-given (playfield_a a.side.video) line n e f g
 
   pub refusals : PaintRefusals a line n
   unfolding first
@@ -51,14 +51,14 @@ module _ (a : Adapter) (line n : ℕ) (fit : Fit a) where
   }
 
 -- What it means that none of them applies.
-pub none-applies : (p : Playfield) (line n : ℕ) → first (paintTests p line n) ≡ 0 → (line ≤ 479) × (n ≡ screenWidth)
-unfolding badLine otherWidth
+pub none-applies : (p : Playfield) (line n : ℕ) → first (paint_tests p line n) ≡ 0 → (line ≤ 479) × (n ≡ screen_width)
+unfolding bad_line other_width
 none-applies p line n h =
-    let eleven = passed (11 when notPaintable p) _ (omega arith) h in
-    let twelve = passed (12 when badLine line) _ (omega arith) eleven.1 in
-    let thirteen = passed (13 when otherWidth n) _ (omega arith) twelve.1 in
-    (ltb-false 479 line twelve.0, eqb-true n screenWidth (not-false _ thirteen.0))
+    let eleven = passed (11 when not_paintable p) _ (omega arith) h in
+    let twelve = passed (12 when bad_line line) _ (omega arith) eleven.1 in
+    let thirteen = passed (13 when other_width n) _ (omega arith) twelve.1 in
+    (ltb-false 479 line twelve.0, eqb-true n screen_width (not-false _ thirteen.0))
 
-pub right-width : (a : Adapter) (line n : ℕ) → paintRefusal a line n ≡ 0 → n ≡ screenWidth
-unfolding paintRefusal
+pub right-width : (a : Adapter) (line n : ℕ) → paint_refusal a line n ≡ 0 → n ≡ screen_width
+unfolding paint_refusal
 right-width a line n h = (none-applies _ line n (sym (fit-passes a (none-fit a _ h) _) ∙ h)).1

@@ -9,9 +9,9 @@ use lib.ListN.{get_or, set}
 use lib.Seq.{get_or-set_other}
 use borrow.Author.Tests.{eqb-true, eqb-false, ne_eqb}
 use Rattle.xosera.specs.State.{Video}
-use Rattle.xosera.specs.XrSpace.{within, put, videoWrite}
+use Rattle.xosera.specs.XrSpace.{within, put, video_write}
 use Rattle.xosera.proofs.Branches.{cond_no, cond_cases, or-eq-false-iff, parts}
-use Rattle.scanline.specs.Scanline.{playfieldA}
+use Rattle.scanline.specs.Scanline.{playfield_a}
 use Rattle.scanline.specs.Claims.{is_taken, Ignores}
 
 -- Another register of playfield A stays.
@@ -24,8 +24,8 @@ another pa a w k d =
 module _ (v : Video) (a w : ℕ) where
   -- Each field stays by itself.
   kept : (a ≡ 0x00 → w % 256 ≡ v.vidctrl % 256) → (a ≡ 0x04 → ⊥) → (a ≡ 0x05 → ⊥) → (a ≡ 0x10 → ⊥) → (a ≡ 0x12 → ⊥) → (a ≡ 0x13 → ⊥)
-      → playfieldA (videoWrite v a w) ≡ playfieldA v
-  unfolding playfieldA videoWrite put
+      → playfield_a (video_write v a w) ≡ playfield_a v
+  unfolding playfield_a video_write put
   kept border left right gfx address length = λ i. record {
     border =
         cond_cases (λ (n : ℕ). n % 256 ≡ v.vidctrl % 256) (eqb a 0x00) w v.vidctrl (λ h. border (eqb-true a 0x00 h)) (λ _. refl) i;

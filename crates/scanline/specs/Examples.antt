@@ -1,12 +1,12 @@
 -- Worked examples of painting, for what the claims do not tell apart: which bits of a word, which edge, which register.
 use Rattle.std.specs.Prelude.{◌≡◌, true, false, cond, List, [], ◌∷◌, ◌++◌, map, ℕ, ◌+◌, ◌*◌, ◌-◌, replicate}
 use Rattle.scanline.specs.declared.Playfield.{Playfield}
-use Rattle.xosera.specs.State.{Video, wordsFrom}
-use Rattle.xosera.specs.Beam.{frame, visibleLines}
-use Rattle.xosera.specs.Adapter.{adapterAt}
+use Rattle.xosera.specs.State.{Video, words_from}
+use Rattle.xosera.specs.Beam.{frame, visible_lines}
+use Rattle.xosera.specs.Adapter.{adapter_at}
 use Rattle.calls.specs.Refusals.{first}
-use Rattle.scanline.specs.Scanline.{playfieldA, colourIndex, colour, painted}
-use Rattle.scanline.specs.PaintCall.{screenWidth, notPaintable, badLine, otherWidth, paintTests, paintRefusal, pixelsAfter}
+use Rattle.scanline.specs.Scanline.{playfield_a, colour_index, colour, painted}
+use Rattle.scanline.specs.PaintCall.{screen_width, not_paintable, bad_line, other_width, paint_tests, paint_refusal, pixels_after}
 
 abbrev pub memory : List ℕ
 memory = 0x0123 ∷ 0x4567 ∷ 0x89AB ∷ 0xCDEF ∷ 0x1357 ∷ 0x2468 ∷ 0xFEDC ∷ 0xBA98 ∷ []
@@ -22,11 +22,11 @@ registers gfx left right address length =
 
 -- The first n indices of a line.
 abbrev pub indices : ℕ → Playfield → List ℕ → ℕ → List ℕ
-indices n p vram line = wordsFrom n 0 (colourIndex p vram line)
+indices n p vram line = words_from n 0 (colour_index p vram line)
 
 -- The first index of each of n lines.
 abbrev pub down : ℕ → Playfield → List ℕ → List ℕ
-down n p vram = wordsFrom n 0 (λ line. colourIndex p vram line 0)
+down n p vram = words_from n 0 (λ line. colour_index p vram line 0)
 
 -- Video registers of 16 bits, all told apart.
 abbrev pub video : Video
@@ -36,12 +36,12 @@ video = record {
   audctrl = 0xFFF2;
   vidleft = 0xFFF3;
   vidright = 0xFFF4;
-  pa = wordsFrom 7 0xFF10 (λ a. a);
-  pb = wordsFrom 7 0xFF18 (λ a. a);
+  pa = words_from 7 0xFF10 (λ a. a);
+  pb = words_from 7 0xFF18 (λ a. a);
 }
 
 pub record ScanlineExamples : Type 0 where
-  pub taken : playfieldA video ≡ record { border = 0x9C; left = 0xFFF3; right = 0xFFF4; gfx = 0xFF10; address = record { 0 = 0xFF12 }; length = 0xFF13 }
+  pub taken : playfield_a video ≡ record { border = 0x9C; left = 0xFFF3; right = 0xFFF4; gfx = 0xFF10; address = record { 0 = 0xFF12 }; length = 0xFF13 }
   -- Four bits and colour base A5, window from 1 up to 7.
   pub four-bits : indices 9 (registers 0xA550 1 7 0 0) memory 0 ≡ 0x9C ∷ 0xA0 ∷ 0xA1 ∷ 0xA2 ∷ 0xA3 ∷ 0xA4 ∷ 0xA5 ∷ 0x9C ∷ 0x9C ∷ []
   -- Eight bits from word 2 on, window from 0 up to 5.
@@ -68,15 +68,15 @@ pub record ScanlineExamples : Type 0 where
   pub line : painted 3 (registers 0x0050 0 9 0 0) memory (replicate 5120 7 ++ (0x0F00 ∷ 0xF0F0 ∷ 0x000F ∷ [])) 0
       ≡ 0x0F00 ∷ 0xF0F0 ∷ 0x000F ∷ []
   -- Refusal 11 by bits 7:4, from 0 to 15: not for a bitmap of depth 1 or 2, nor for any blank; else it is.
-  pub paintable : wordsFrom 16 0 (λ n. cond (notPaintable (registers (0xFF0F + n * 16) 0 0 0 0)) 11 0)
+  pub paintable : words_from 16 0 (λ n. cond (not_paintable (registers (0xFF0F + n * 16) 0 0 0 0)) 11 0)
       ≡ 11 ∷ 11 ∷ 11 ∷ 11 ∷ 11 ∷ 0 ∷ 0 ∷ 11 ∷ 0 ∷ 0 ∷ 0 ∷ 0 ∷ 0 ∷ 0 ∷ 0 ∷ 0 ∷ []
-  pub bounds : badLine 479 ∷ badLine 480 ∷ otherWidth 639 ∷ otherWidth 640 ∷ otherWidth 641 ∷ [] ≡ false ∷ true ∷ true ∷ false ∷ true ∷ []
+  pub bounds : bad_line 479 ∷ bad_line 480 ∷ other_width 639 ∷ other_width 640 ∷ other_width 641 ∷ [] ≡ false ∷ true ∷ true ∷ false ∷ true ∷ []
   -- 11 before 12 before 13.
-  pub order : first (paintTests (registers 0x40 0 0 0 0) 480 639) ∷ first (paintTests (registers 0x50 0 0 0 0) 480 639)
-      ∷ first (paintTests (registers 0x50 0 0 0 0) 479 639) ∷ first (paintTests (registers 0x50 0 0 0 0) 479 640) ∷ [] ≡ 11 ∷ 12 ∷ 13 ∷ 0 ∷ []
+  pub order : first (paint_tests (registers 0x40 0 0 0 0) 480 639) ∷ first (paint_tests (registers 0x50 0 0 0 0) 480 639)
+      ∷ first (paint_tests (registers 0x50 0 0 0 0) 479 639) ∷ first (paint_tests (registers 0x50 0 0 0 0) 479 640) ∷ [] ≡ 11 ∷ 12 ∷ 13 ∷ 0 ∷ []
   -- Without memories it is refused with 1, and the pixels stay.
-  pub untouched : (paintRefusal (adapterAt [] [] []) 480 2 ≡ 1) × (pixelsAfter (adapterAt [] [] []) 480 (5 ∷ 6 ∷ []) ≡ 5 ∷ 6 ∷ [])
+  pub untouched : (paint_refusal (adapter_at [] [] []) 480 2 ≡ 1) × (pixels_after (adapter_at [] [] []) 480 (5 ∷ 6 ∷ []) ≡ 5 ∷ 6 ∷ [])
   -- A line has as many pixels as the beam has positions that are not blank.
-  pub beam-width : screenWidth ≡ frame.positions - frame.blank
+  pub beam-width : screen_width ≡ frame.positions - frame.blank
   -- The lines that the beam shows are those that can be painted.
-  pub beam-lines : badLine (visibleLines - 1) ∷ badLine visibleLines ∷ [] ≡ false ∷ true ∷ []
+  pub beam-lines : bad_line (visible_lines - 1) ∷ bad_line visible_lines ∷ [] ≡ false ∷ true ∷ []

@@ -11,7 +11,7 @@ use Rattle.xosera.specs.Blitter.{stepped, steps}
 use Rattle.xosera.specs.Events.{Answer, step, run}
 use Rattle.calls.specs.Refusals.{Fit, tests}
 use Rattle.calls.specs.Calls.{answer}
-use Rattle.calls.specs.Sequences.{allAnswers}
+use Rattle.calls.specs.Sequences.{all_answers}
 use Rattle.calls.proofs.RefusalLaws.{lent-fit}
 use Rattle.calls.proofs.FitLaws.{after-step, after_run, stepped-fit}
 use Rattle.calls.specs.Promises.{Does}
@@ -26,19 +26,19 @@ step-wrote-its-mask {a} d ok on =
     subst₂ (λ (x : Answer) (c : Adapter). WroteNibbles a x.mask c) (sym d.answers) (sym d.leaves) (masks.stepped a (does-accepted d ok) on)
 
 -- The masks of some answers by their place, and that of step k + 1 in a list of steps.
-abbrev maskAt : ℕ → List Answer → ℕ
-maskAt k told = get_or (map (λ (x : Answer). x.mask) told) k 0
+abbrev mask_at : ℕ → List Answer → ℕ
+mask_at k told = get_or (map (λ (x : Answer). x.mask) told) k 0
 
-mask_at : (k : ℕ) (a : Adapter) → Fit a → maskAt k (allAnswers a (replicate (suc k) step)) ≡ (answer (steps k a) step).mask
-unfolding allAnswers steps
+mask_at : (k : ℕ) (a : Adapter) → Fit a → mask_at k (all_answers a (replicate (suc k) step)) ≡ (answer (steps k a) step).mask
+unfolding all_answers steps
 mask_at zero a fit = refl
 mask_at (suc k) a fit =
-    ap (λ (b : Adapter). maskAt k (allAnswers b (replicate (suc k) step))) (after-step a fit) ∙ mask_at k (stepped a) (stepped-fit a fit)
+    ap (λ (b : Adapter). mask_at k (all_answers b (replicate (suc k) step))) (after-step a fit) ∙ mask_at k (stepped a) (stepped-fit a fit)
 
 pub run-answers-its-last-mask : {a b c : Adapter} {n k : ℕ} {told : Answer} {each : List Answer} → Does a (run n) told b → told.refusal ≡ 0
-    → told.value ≡ suc k → Played a (replicate (suc k) step) each c → told.mask ≡ maskAt k each
+    → told.value ≡ suc k → Played a (replicate (suc k) step) each c → told.mask ≡ mask_at k each
 unfolding tests
 run-answers-its-last-mask {a} {n = n} {k} d ok counts p =
     let fit : Fit a = lent-fit a (run n) refl (does-accepted d ok) in
     ap (λ (x : Answer). x.mask) d.answers ∙ masks.ran a n k (sym (ap (λ (x : Answer). x.value) d.answers) ∙ counts)
-    ∙ rw (after_run a fit k) (sym (mask_at k a fit)) ∙ ap (maskAt k) (sym p.answered)
+    ∙ rw (after_run a fit k) (sym (mask_at k a fit)) ∙ ap (mask_at k) (sym p.answered)

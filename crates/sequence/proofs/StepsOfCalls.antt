@@ -8,12 +8,12 @@ use native.Mathlib.Omega.{arith}
 use lib.ListN.{replicate}
 use Rattle.xosera.specs.State.{is_set}
 use Rattle.xosera.specs.Adapter.{Adapter}
-use Rattle.xosera.specs.Blitter.{drawn, steps, wordsLeft}
+use Rattle.xosera.specs.Blitter.{drawn, steps, words_left}
 use Rattle.xosera.specs.Events.{Event, Answer, step, run}
 use Rattle.calls.specs.Refusals.{refusal}
 use Rattle.xosera.specs.Acts.{done, given}
 use Rattle.calls.specs.Calls.{after, answer}
-use Rattle.calls.specs.Sequences.{startWith, Starts, words_of, afterAll}
+use Rattle.calls.specs.Sequences.{start_with, Starts, words_of, after_all}
 use Rattle.calls.proofs.RefusalLaws.{accepted-in-range}
 use Rattle.xosera.proofs.StepCases.{stepped-vram}
 use Rattle.calls.proofs.BlitEnds.{blit-ends-on-its-last-step}
@@ -46,7 +46,7 @@ step-draws-one-word {a} d ok r = (
   ap (λ (c : Adapter). c.vram) (does-leaves d ok) ∙ stepped-vram a r,
 )
   where
-    one : 0 < wordsLeft a → min 1 (wordsLeft a) ≡ 1
+    one : 0 < words_left a → min 1 (words_left a) ≡ 1
     one h = omega arith
 
 pub idle-step-draws-none : {a b : Adapter} {told : Answer} → Does a step told b → told.refusal ≡ 0 → is_set a.engine.running ≡ false
@@ -54,29 +54,29 @@ pub idle-step-draws-none : {a b : Adapter} {told : Answer} → Does a step told 
 unfolding given
 idle-step-draws-none {a} d ok r = does-gives d ok ∙ none (idle-none-left a (accepted-in-range a step (does-accepted d ok)) r)
   where
-    none : wordsLeft a ≡ 0 → min 1 (wordsLeft a) ≡ 0
+    none : words_left a ≡ 0 → min 1 (words_left a) ≡ 0
     none h = omega arith
 
 -- After a start, n calls of a blit step leave the engine running below W x L and idle from there on.
 pub blit-ends-on-its-last-call : (a c : Adapter) (b n : ℕ) (told : List Answer) → Starts a b →
-    let s = after a (startWith b) in
+    let s = after a (start_with b) in
     Played s (replicate n step) told c →
     (n < words_of s → is_set c.engine.running ≡ true) × (words_of s ≤ n → is_set c.engine.running ≡ false)
-unfolding afterAll
+unfolding after_all
 blit-ends-on-its-last-call a c b n told starts p =
-    let s : Adapter = after a (startWith b) in
+    let s : Adapter = after a (start_with b) in
     let ends = blit-ends-on-its-last-step a b starts in
     let there : c ≡ steps n s =
-    p.leaves ∙ ap (afterAll s) (sym (append-nil (replicate n step)))
+    p.leaves ∙ ap (after_all s) (sym (append-nil (replicate n step)))
     ∙ steps-first-end n s [] (started-fit a b starts) in
     let same : is_set c.engine.running ≡ is_set (steps n s).engine.running = ap (λ (x : Adapter). is_set x.engine.running) there in
     (λ h. same ∙ ends.runs n h, λ h. same ∙ ends.over n h)
 
 -- A run counts the smaller of n and the words left, and that many fewer are left, for any n.
 pub run-counts-words-left : {a b : Adapter} {n : ℕ} {told : Answer} → Does a (run n) told b → told.refusal ≡ 0
-    → (told.value ≡ min n (wordsLeft a)) × (wordsLeft b ≡ wordsLeft a - n)
+    → (told.value ≡ min n (words_left a)) × (words_left b ≡ words_left a - n)
 unfolding done given
 run-counts-words-left {a} {n = n} d ok = (
   does-gives d ok,
-  ap wordsLeft (does-leaves d ok) ∙ steps-left n a (accepted-in-range a (run n) (does-accepted d ok)),
+  ap words_left (does-leaves d ok) ∙ steps-left n a (accepted-in-range a (run n) (does-accepted d ok)),
 )

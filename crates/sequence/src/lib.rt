@@ -1,9 +1,9 @@
 // A list of events played through the public calls, each given what the one before it left.
 ghost use Rattle.std.specs.Prelude.{◌≡◌, List, ℕ, ◌/◌, ◌%◌, length};
-ghost use Rattle.xosera.specs.Adapter.{adapterAt};
+ghost use Rattle.xosera.specs.Adapter.{adapter_at};
 ghost use Rattle.xosera.specs.Events.{write, read, tick, beam, line, call, step, run};
 ghost use Rattle.calls.specs.Promises.{Does};
-ghost use Rattle.sequence.specs.Played.{ofOutcome, eventOf, eventsOf, answersOf, Played};
+ghost use Rattle.sequence.specs.Played.{of_outcome, event_of, events_of, answers_of, Played};
 
 use xosera::STATE_WORDS;
 
@@ -22,8 +22,8 @@ fn write(
     odd: bool,
     arg: u64,
 ) -> Outcome
-    ensures { Does (adapterAt s.old vram.old xr.old) (call (write (arg % 256) odd (arg / 256 % 256)))
-        (ofOutcome result) (adapterAt s.new vram.new xr.new) }
+    ensures { Does (adapter_at s.old vram.old xr.old) (call (write (arg % 256) odd (arg / 256 % 256)))
+        (of_outcome result) (adapter_at s.new vram.new xr.new) }
 {
     let reg = (arg % 256) as u8;
     let byte = (arg / 256 % 256) as u8;
@@ -42,8 +42,8 @@ fn wide(x: u8) -> u64
 }
 
 fn read(s: &mut [u16; STATE_WORDS], vram: &[u16], xr: &[u16], odd: bool, arg: u64) -> Outcome
-    ensures { Does (adapterAt s.old vram.now xr.now) (call (read (arg % 256) odd)) (ofOutcome result)
-        (adapterAt s.new vram.now xr.now) }
+    ensures { Does (adapter_at s.old vram.now xr.now) (call (read (arg % 256) odd)) (of_outcome result)
+        (adapter_at s.new vram.now xr.now) }
 {
     let reg = (arg % 256) as u8;
     let a = adapter::read_byte(s, vram, xr, reg, odd);
@@ -56,7 +56,7 @@ fn read(s: &mut [u16; STATE_WORDS], vram: &[u16], xr: &[u16], odd: bool, arg: u6
 }
 
 fn line(s: &[u16; STATE_WORDS]) -> Outcome
-    ensures { (v x : List ℕ) → Does (adapterAt s.now v x) (call line) (ofOutcome result) (adapterAt s.now v x) }
+    ensures { (v x : List ℕ) → Does (adapter_at s.now v x) (call line) (of_outcome result) (adapter_at s.now v x) }
 {
     let a = adapter::interrupt_line(s);
     if a.up {
@@ -74,7 +74,7 @@ fn line(s: &[u16; STATE_WORDS]) -> Outcome
 }
 
 fn tick(s: &mut [u16; STATE_WORDS]) -> Outcome
-    ensures { (v x : List ℕ) → Does (adapterAt s.old v x) (call tick) (ofOutcome result) (adapterAt s.new v x) }
+    ensures { (v x : List ℕ) → Does (adapter_at s.old v x) (call tick) (of_outcome result) (adapter_at s.new v x) }
 {
     let a = adapter_steps::timer_tick(s);
     Outcome {
@@ -85,8 +85,8 @@ fn tick(s: &mut [u16; STATE_WORDS]) -> Outcome
 }
 
 fn beam(s: &mut [u16; STATE_WORDS], vram: &[u16], xr: &mut [u16]) -> Outcome
-    ensures { Does (adapterAt s.old vram.now xr.old) (call beam) (ofOutcome result)
-        (adapterAt s.new vram.now xr.new) }
+    ensures { Does (adapter_at s.old vram.now xr.old) (call beam) (of_outcome result)
+        (adapter_at s.new vram.now xr.new) }
 {
     let a = adapter_steps::beam_step(s, vram, xr);
     Outcome {
@@ -97,8 +97,8 @@ fn beam(s: &mut [u16; STATE_WORDS], vram: &[u16], xr: &mut [u16]) -> Outcome
 }
 
 fn step(s: &mut [u16; STATE_WORDS], vram: &mut [u16], xr: &[u16]) -> Outcome
-    ensures { Does (adapterAt s.old vram.old xr.now) step (ofOutcome result)
-        (adapterAt s.new vram.new xr.now) }
+    ensures { Does (adapter_at s.old vram.old xr.now) step (of_outcome result)
+        (adapter_at s.new vram.new xr.now) }
 {
     let a = adapter_steps::blit_step(s, vram, xr);
     Outcome {
@@ -109,8 +109,8 @@ fn step(s: &mut [u16; STATE_WORDS], vram: &mut [u16], xr: &[u16]) -> Outcome
 }
 
 fn run(s: &mut [u16; STATE_WORDS], vram: &mut [u16], xr: &[u16], n: u64) -> Outcome
-    ensures { Does (adapterAt s.old vram.old xr.now) (run n) (ofOutcome result)
-        (adapterAt s.new vram.new xr.now) }
+    ensures { Does (adapter_at s.old vram.old xr.now) (run n) (of_outcome result)
+        (adapter_at s.new vram.new xr.now) }
 {
     let a = adapter_steps::blit_run(s, vram, xr, n);
     Outcome {
@@ -128,8 +128,8 @@ pub fn apply(
     kind: u8,
     arg: u64,
 ) -> Outcome
-    ensures { Does (adapterAt s.old vram.old xr.old) (eventOf kind arg) (ofOutcome result)
-        (adapterAt s.new vram.new xr.new) }
+    ensures { Does (adapter_at s.old vram.old xr.old) (event_of kind arg) (of_outcome result)
+        (adapter_at s.new vram.new xr.new) }
 {
     match kind {
         0 => write(s, vram, xr, false, arg),
@@ -159,10 +159,10 @@ pub fn play(
     requires refusals_len { length refusals.old ≡ length kinds.now }
     requires values_len { length values.old ≡ length kinds.now }
     requires masks_len { length masks.old ≡ length kinds.now }
-    ensures { Played (adapterAt s.old vram.old xr.old)
-        (eventsOf kinds.now args.now)
-        (answersOf refusals.new values.new masks.new)
-        (adapterAt s.new vram.new xr.new) }
+    ensures { Played (adapter_at s.old vram.old xr.old)
+        (events_of kinds.now args.now)
+        (answers_of refusals.new values.new masks.new)
+        (adapter_at s.new vram.new xr.new) }
 {
     let mut i = 0;
     while i < kinds.len() {

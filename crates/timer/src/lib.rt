@@ -1,8 +1,8 @@
 // XM_TIMER: ticks, the countdown and the saved low byte.
 ghost use Rattle.std.specs.Prelude.{◌≡◌, ℕ, false, List, length};
-ghost use Rattle.xosera.specs.State.{stateWords};
+ghost use Rattle.xosera.specs.State.{state_words};
 ghost use Rattle.xosera.specs.Adapter.{Side};
-ghost use Rattle.xosera.specs.HostBytes.{writeTimer, readByte};
+ghost use Rattle.xosera.specs.HostBytes.{write_timer, read_byte};
 ghost use Rattle.xosera.specs.TimerTick as TimerTick;
 ghost use Rattle.xosera.specs.Plan.{Performs};
 
@@ -10,7 +10,7 @@ use xosera::{COUNTDOWN, INTERVAL, STATUS, TIMER, TIMER_EXPIRED, TIMER_SAVED};
 
 // A tick: the timer goes up by 1, and a countdown that reaches 0 sets status bit 5 and starts again.
 pub fn tick(s: &mut [u16])
-    requires { length s.old ≡ stateWords }
+    requires { length s.old ≡ state_words }
     ensures { (v x : List ℕ) → Performs TimerTick.tick s.old v x s.new v x }
 {
     let countdown = s[COUNTDOWN];
@@ -30,8 +30,8 @@ pub fn tick(s: &mut [u16])
 
 // An odd write: the countdown and its interval.
 pub fn set_countdown(s: &mut [u16], w: u16)
-    requires { length s.old ≡ stateWords }
-    ensures { (v x : List ℕ) → Performs (λ (side : Side). writeTimer side w) s.old v x s.new v x }
+    requires { length s.old ≡ state_words }
+    ensures { (v x : List ℕ) → Performs (λ (side : Side). write_timer side w) s.old v x s.new v x }
 {
     s[COUNTDOWN] = w;
     s[INTERVAL] = w;
@@ -39,8 +39,8 @@ pub fn set_countdown(s: &mut [u16], w: u16)
 
 // An even read saves the timer's low byte.
 pub fn save(s: &mut [u16])
-    requires { length s.old ≡ stateWords }
-    ensures { (v x : List ℕ) → Performs (λ (side : Side). readByte side 2 false) s.old v x s.new v x }
+    requires { length s.old ≡ state_words }
+    ensures { (v x : List ℕ) → Performs (λ (side : Side). read_byte side 2 false) s.old v x s.new v x }
 {
     s[TIMER_SAVED] = s[TIMER] % 256;
 }

@@ -8,7 +8,7 @@ use native.Mathlib.Decide.{ℕ_discrete}
 use borrow.Author.Tests.{lt-leb, eq-eqb, ne_eqb}
 use lib.Bits.{bit_and, and_step, and_self}
 use lib.Dec.{T, eqb, leb}
-use Rattle.xosera.specs.Memories.{isVramLength}
+use Rattle.xosera.specs.Memories.{is_vram_length}
 use Rattle.xosera.proofs.Tables.{below-tested}
 use Rattle.vram.proofs.Lengths.{nine, length-bounds}
 
@@ -32,35 +32,35 @@ power P (suc k) at n lo hi z =
 
 -- The powers from 256 to 65,536 are the lengths.
 abbrev listed : ℕ → Bool
-listed j = leb (2 ^ j) 255 || isVramLength (2 ^ j)
+listed j = leb (2 ^ j) 255 || is_vram_length (2 ^ j)
 
 left_out : (a b : Bool) → T (a || b) → a ≡ false → b ≡ true
 left_out true b t e = absurd (true≢false e)
 left_out false true t e = refl
 
-pub power-length : (n : ℕ) → 256 ≤ n → n ≤ 65536 → bit_and n (n - 1) ≡ 0 → isVramLength n ≡ true
-unfolding isVramLength
+pub power-length : (n : ℕ) → 256 ≤ n → n ≤ 65536 → bit_and n (n - 1) ≡ 0 → is_vram_length n ≡ true
+unfolding is_vram_length
 power-length n lo hi z =
-    power (λ (m : ℕ). 256 ≤ m → isVramLength m ≡ true) 16
-    (λ j l h. left_out (leb (2 ^ j) 255) (isVramLength (2 ^ j)) (below-tested 17 listed tt j (omega (arith, l))) (lt-leb (2 ^ j) 255 (omega (arith, h))))
+    power (λ (m : ℕ). 256 ≤ m → is_vram_length m ≡ true) 16
+    (λ j l h. left_out (leb (2 ^ j) 255) (is_vram_length (2 ^ j)) (below-tested 17 listed tt j (omega (arith, l))) (lt-leb (2 ^ j) 255 (omega (arith, h))))
     n (omega (arith, lo)) hi z lo
 
-pub length-power : (n : ℕ) → isVramLength n ≡ true → bit_and n (n - 1) ≡ 0
+pub length-power : (n : ℕ) → is_vram_length n ≡ true → bit_and n (n - 1) ≡ 0
 length-power = nine (λ (n : ℕ). bit_and n (n - 1) ≡ 0) refl refl refl refl refl refl refl refl refl
 
 -- The test of a length.
-pub tested : (n : ℕ) → 256 ≤ n → n ≤ 65536 → eqb (bit_and n (n - 1)) 0 ≡ isVramLength n
-tested n lo hi = pick (isVramLength n) refl (ℕ_discrete (bit_and n (n - 1)) 0)
+pub tested : (n : ℕ) → 256 ≤ n → n ≤ 65536 → eqb (bit_and n (n - 1)) 0 ≡ is_vram_length n
+tested n lo hi = pick (is_vram_length n) refl (ℕ_discrete (bit_and n (n - 1)) 0)
   where
-    pick : (b : Bool) → isVramLength n ≡ b → Dec (bit_and n (n - 1) ≡ 0) → eqb (bit_and n (n - 1)) 0 ≡ isVramLength n
+    pick : (b : Bool) → is_vram_length n ≡ b → Dec (bit_and n (n - 1) ≡ 0) → eqb (bit_and n (n - 1)) 0 ≡ is_vram_length n
     pick b e (yes z) = eq-eqb _ 0 z ∙ sym (power-length n lo hi z)
     pick true e (no d) = absurd (d (length-power n e))
     pick false e (no d) = ne_eqb _ 0 d ∙ sym e
 
 -- No number out of these bounds is a length.
-pub no_length : (n : ℕ) → (256 ≤ n → n ≤ 65536 → ⊥) → false ≡ isVramLength n
-no_length n out = pick (isVramLength n) refl
+pub no_length : (n : ℕ) → (256 ≤ n → n ≤ 65536 → ⊥) → false ≡ is_vram_length n
+no_length n out = pick (is_vram_length n) refl
   where
-    pick : (b : Bool) → isVramLength n ≡ b → false ≡ isVramLength n
+    pick : (b : Bool) → is_vram_length n ≡ b → false ≡ is_vram_length n
     pick true e = absurd (out (length-bounds n e).0 (length-bounds n e).1)
     pick false e = sym e

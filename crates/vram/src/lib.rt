@@ -1,13 +1,13 @@
 // VRAM by its address modulo the length.
 ghost use Rattle.std.specs.Prelude.{◌≡◌, true, ℕ, ◌%◌, ◌<◌, length};
-ghost use Rattle.xosera.specs.Memories.{isVramLength, word, stored};
+ghost use Rattle.xosera.specs.Memories.{is_vram_length, word, stored};
 ghost use Rattle.words.specs.Spread.{spread};
 
 use xosera::VramAddr;
 
 // A power of two from 256 to 65,536: it has no bit in common with the number before it.
 pub fn is_vram_length(n: usize) -> bool
-    ensures { result ≡ isVramLength n }
+    ensures { result ≡ is_vram_length n }
 {
     if n < 256 {
         return false;
@@ -20,7 +20,7 @@ pub fn is_vram_length(n: usize) -> bool
 
 // Where a VRAM address lies. The length is a power of two, so no division is needed.
 pub fn place(a: VramAddr, n: usize) -> usize
-    requires { isVramLength n ≡ true }
+    requires { is_vram_length n ≡ true }
     ensures { (result ≡ a.0 % n) × (result < n) }
 {
     (a.0 as usize) & (n - 1)
@@ -39,7 +39,7 @@ pub fn copy(from: &[u16], to: &mut [u16])
 }
 
 pub fn read_word(vram: &[u16], a: VramAddr) -> u16
-    requires { isVramLength (length vram.now) ≡ true }
+    requires { is_vram_length (length vram.now) ≡ true }
     ensures { result ≡ word vram.now a.0 }
 {
     let at = place(a, vram.len());
@@ -48,7 +48,7 @@ pub fn read_word(vram: &[u16], a: VramAddr) -> u16
 
 // A store under a spread nibble mask.
 pub fn store_bits(vram: &mut [u16], a: VramAddr, bits: u16, value: u16)
-    requires { isVramLength (length vram.old) ≡ true }
+    requires { is_vram_length (length vram.old) ≡ true }
     ensures { (m : ℕ) → bits ≡ spread m → vram.new ≡ stored (record { mask = m; addr = a.0; value = value }) vram.old }
 {
     let at = place(a, vram.len());
@@ -58,7 +58,7 @@ pub fn store_bits(vram: &mut [u16], a: VramAddr, bits: u16, value: u16)
 
 // A store under a nibble mask.
 pub fn store(vram: &mut [u16], a: VramAddr, mask: u16, value: u16)
-    requires { isVramLength (length vram.old) ≡ true }
+    requires { is_vram_length (length vram.old) ≡ true }
     ensures { vram.new ≡ stored (record { mask = mask; addr = a.0; value = value }) vram.old }
 {
     store_bits(vram, a, words::spread(mask), value);

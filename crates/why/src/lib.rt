@@ -1,13 +1,13 @@
 // Why a nibble of VRAM is as it is: a blit done on a copy of the memory, with an account of what its words did to that nibble.
 ghost use Rattle.std.specs.Prelude.{◌≡◌, true, false, ◌%◌, ◌≤◌, ◌<◌, eqb, length};
-ghost use Rattle.xosera.specs.Memories.{isVramLength};
+ghost use Rattle.xosera.specs.Memories.{is_vram_length};
 ghost use Rattle.xosera.specs.Blitter.{sourced, drawing};
 ghost use Rattle.xosera.specs.Ranges.{Running};
 ghost use Rattle.words.specs.Spread.{spread};
-ghost use Rattle.blits.specs.Blits.{drawnBy};
-ghost use Rattle.reasons.specs.Account.{heldBackBy, whyOf};
-ghost use Rattle.reasons.specs.WhyCall.{whyRefusal, numbers, Explains};
-ghost use Rattle.why.specs.Reaches.{afterReach, NotedOne};
+ghost use Rattle.blits.specs.Blits.{drawn_by};
+ghost use Rattle.reasons.specs.Account.{held_back_by, why_of};
+ghost use Rattle.reasons.specs.WhyCall.{why_refusal, numbers, Explains};
+ghost use Rattle.why.specs.Reaches.{after_reach, NotedOne};
 ghost use Rattle.why.specs.Progress.{Passed};
 
 use engine::Drawn;
@@ -17,7 +17,7 @@ use xosera::{BlitRegs, Engine, VramAddr};
 // What holds nibble k back, 0 the lowest, at an engine's next step, by the word that it takes.
 fn held_back(e: Engine, word: u16, k: u16) -> Why
     requires { k < 4 }
-    ensures { result ≡ heldBackBy e (sourced e word) k }
+    ensures { result ≡ held_back_by e (sourced e word) k }
 {
     let first = words::bit(k, engine::first_mask(e));
     let last = words::bit(k, engine::last_mask(e));
@@ -33,7 +33,7 @@ fn held_back(e: Engine, word: u16, k: u16) -> Why
 fn after_reach(e: Engine, drawn: Drawn, k: u16, known: Why) -> Why
     requires k_bound { k < 4 }
     requires bits_value { drawn.bits ≡ spread (drawing e drawn.word).mask }
-    ensures { result ≡ afterReach e drawn.word k known }
+    ensures { result ≡ after_reach e drawn.word k known }
 {
     if words::has_nibble(k, drawn.bits) {
         return Why::Written {
@@ -49,7 +49,7 @@ fn after_reach(e: Engine, drawn: Drawn, k: u16, known: Why) -> Why
 
 // Whether an engine's next word goes to the address, in a memory of n words.
 fn goes_to(e: Engine, n: usize, address: usize) -> bool
-    requires { isVramLength n ≡ true }
+    requires { is_vram_length n ≡ true }
     ensures { result ≡ eqb (e.regs.dstd % n) address }
 {
     let to = VramAddr(e.regs.dstd);
@@ -65,7 +65,7 @@ struct Noted {
 
 // One word drawn, and noted if it goes to the address.
 fn note(e: Engine, vram: &mut [u16], address: usize, k: u16, known: Why) -> Noted
-    requires vram_value { isVramLength (length vram.old) ≡ true }
+    requires vram_value { is_vram_length (length vram.old) ≡ true }
     requires k_bound { k < 4 }
     ensures { NotedOne e vram.old address k known result vram.new }
 {
@@ -86,7 +86,7 @@ fn note(e: Engine, vram: &mut [u16], address: usize, k: u16, known: Why) -> Note
 
 // Passes words that are neither first nor last of their line, so that no edge mask is needed, up to one that goes to the address.
 fn pass_inside(e: Engine, vram: &mut [u16], address: usize) -> Engine
-    requires vram_value { isVramLength (length vram.old) ≡ true }
+    requires vram_value { is_vram_length (length vram.old) ≡ true }
     requires running { Running e }
     ensures { Passed address e vram.old result vram.new }
 {
@@ -106,7 +106,7 @@ fn pass_inside(e: Engine, vram: &mut [u16], address: usize) -> Engine
 
 // Passes words up to one that goes to the address, or to the blit's last.
 fn pass(e: Engine, vram: &mut [u16], address: usize) -> Engine
-    requires vram_value { isVramLength (length vram.old) ≡ true }
+    requires vram_value { is_vram_length (length vram.old) ≡ true }
     requires running { Running e }
     ensures { Passed address e vram.old result vram.new }
 {
@@ -124,10 +124,10 @@ fn pass(e: Engine, vram: &mut [u16], address: usize) -> Engine
 
 // All words of a blit, with what they did to a nibble, 0 to 3 from the left.
 fn account(regs: BlitRegs, vram: &mut [u16], address: usize, nibble: u32) -> Why
-    requires vram_value { isVramLength (length vram.old) ≡ true }
+    requires vram_value { is_vram_length (length vram.old) ≡ true }
     requires nibble_bound { nibble ≤ 3 }
-    ensures { (result ≡ whyOf regs vram.old (record { address = address; nibble = nibble })) ×
-        (vram.new ≡ drawnBy regs vram.old) }
+    ensures { (result ≡ why_of regs vram.old (record { address = address; nibble = nibble })) ×
+        (vram.new ≡ drawn_by regs vram.old) }
 {
     let k = (3 - nibble) as u16;
     let mut at = engine::launch(regs);
@@ -144,7 +144,7 @@ fn account(regs: BlitRegs, vram: &mut [u16], address: usize, nibble: u32) -> Why
 
 // Refusals 1 and 15, by the lengths of the two memories.
 fn why_refusal(before: usize, work: usize, address: u32, nibble: u32) -> u8
-    ensures { result ≡ whyRefusal before work (record { address = address; nibble = nibble }) }
+    ensures { result ≡ why_refusal before work (record { address = address; nibble = nibble }) }
 {
     if !vram::is_vram_length(before) {
         return 1;

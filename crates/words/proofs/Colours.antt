@@ -6,7 +6,7 @@ use native.Mathlib.Omega.{arith}
 use borrow.Author.Tests.{eqb-true, eqb-false, eq-eqb, ne_eqb}
 use lib.Bits.{bit_and, bit_or, bit_xor, and_block, or_block, xor_block, or_lt, xor_lt, and_le_l, and_le_r, xor_add_and, xor_self}
 use lib.Dec.{eqb, eqb→eq}
-use Rattle.xosera.specs.Words.{bit, nibble, isColour, colourMask}
+use Rattle.xosera.specs.Words.{bit, nibble, is_colour, colour_mask}
 use Rattle.words.specs.Spread.{spread}
 use Rattle.xosera.proofs.Tables.{below-tested}
 use Rattle.words.proofs.BothWays.{ways}
@@ -68,10 +68,10 @@ unfolding nibble
 twice t h = omega arith
 
 -- The nibbles of S that differ from T's.
-abbrev pub colourTops : ℕ → ℕ → ℕ
-colourTops t s = tops_of 0x7777 0x8888 (bit_xor s (t * 0x0101))
+abbrev pub colour_tops : ℕ → ℕ → ℕ
+colour_tops t s = tops_of 0x7777 0x8888 (bit_xor s (t * 0x0101))
 
-tops-marks : (t s : ℕ) → t < 256 → s < 65536 → colourTops t s ≡ marks (same s t 3 1) (same s t 2 0) (same s t 1 1) (same s t 0 0)
+tops-marks : (t s : ℕ) → t < 256 → s < 65536 → colour_tops t s ≡ marks (same s t 3 1) (same s t 2 0) (same s t 1 1) (same s t 0 0)
 tops-marks t s ht hs =
     ap₂ (λ (a b : ℕ). tops_of 0x7777 0x8888 (bit_xor a b)) (split s hs) (twice t ht)
     ∙ more 0x777 0x888 _ _ 0 0
@@ -89,30 +89,30 @@ tops-marks t s ht hs =
 abbrev unequal : Bool → Bool → Bool → Bool → ℕ
 unequal p q r s = cond p 0 8 + cond q 0 4 + cond r 0 2 + cond s 0 1
 
-nibblesRight : Bool → Bool → Bool → Bool → Bool
+nibbles_right : Bool → Bool → Bool → Bool → Bool
 unfolding spread bit
-nibblesRight p q r s = eqb (marks p q r s / 8 * 15) (spread (unequal p q r s))
+nibbles_right p q r s = eqb (marks p q r s / 8 * 15) (spread (unequal p q r s))
 
 -- By nibbles, each for itself.
-pub nibble-room : (t s : ℕ) → colourTops t s ≤ 0x8888
+pub nibble-room : (t s : ℕ) → colour_tops t s ≤ 0x8888
 nibble-room t s = and_le_r (bit_or (bit_and (bit_xor s (t * 0x0101)) 0x7777 + 0x7777) (bit_xor s (t * 0x0101))) 0x8888
 
-pub nibble-bits : (t s : ℕ) → t < 256 → s < 65536 → colourTops t s / 8 * 15 ≡ spread (colourMask false t s)
-unfolding colourMask isColour spread bit nibblesRight
+pub nibble-bits : (t s : ℕ) → t < 256 → s < 65536 → colour_tops t s / 8 * 15 ≡ spread (colour_mask false t s)
+unfolding colour_mask is_colour spread bit nibbles_right
 nibble-bits t s ht hs =
     let p = same s t 3 1 in
     let q = same s t 2 0 in
     let r = same s t 1 1 in
     let u = same s t 0 0 in
-    rw (tops-marks t s ht hs) (eqb→eq (marks p q r u / 8 * 15) (spread (unequal p q r u)) (ways nibblesRight tt p q r u))
+    rw (tops-marks t s ht hs) (eqb→eq (marks p q r u / 8 * 15) (spread (unequal p q r u)) (ways nibbles_right tt p q r u))
 
 -- The lower nibble of a byte for both, of which one differs where the byte does.
-abbrev pub joinedTops : ℕ → ℕ
-joinedTops z = bit_and (bit_or z (z / 16)) 0x0808
+abbrev pub joined_tops : ℕ → ℕ
+joined_tops z = bit_and (bit_or z (z / 16)) 0x0808
 
-bytesRight : Bool → Bool → Bool → Bool → Bool
+bytes_right : Bool → Bool → Bool → Bool → Bool
 unfolding spread bit
-bytesRight p q r s = eqb (joinedTops (marks p q r s) / 8 * 255) (spread (unequal (p && q) (p && q) (r && s) (r && s)))
+bytes_right p q r s = eqb (joined_tops (marks p q r s) / 8 * 255) (spread (unequal (p && q) (p && q) (r && s) (r && s)))
 
 byte-eqb : (a b c d : ℕ) → b < 16 → d < 16 → (eqb a c && eqb b d) ≡ eqb (a * 16 + b) (c * 16 + d)
 byte-eqb a b c d hb hd = go (eqb a c) (eqb b d) refl refl
@@ -130,11 +130,11 @@ whole s t h k =
     ∙ ap (eqb (nibble (k + 1) s * 16 + nibble k s)) (omega arith)
 
 -- By bytes, both nibbles of each.
-pub byte-room : (z : ℕ) → joinedTops z ≤ 0x0808
+pub byte-room : (z : ℕ) → joined_tops z ≤ 0x0808
 byte-room z = and_le_r (bit_or z (z / 16)) 0x0808
 
-pub byte-bits : (t s : ℕ) → t < 256 → s < 65536 → joinedTops (colourTops t s) / 8 * 255 ≡ spread (colourMask true t s)
-unfolding nibble colourMask isColour spread bit bytesRight
+pub byte-bits : (t s : ℕ) → t < 256 → s < 65536 → joined_tops (colour_tops t s) / 8 * 255 ≡ spread (colour_mask true t s)
+unfolding nibble colour_mask is_colour spread bit bytes_right
 byte-bits t s ht hs =
     let p = same s t 3 1 in
     let q = same s t 2 0 in
@@ -143,5 +143,5 @@ byte-bits t s ht hs =
     let high : (p && q) ≡ eqb (s / 256 % 256) t = whole s t ht 2 ∙ ap (λ (b : ℕ). eqb b t) (omega arith) in
     let low : (r && u) ≡ eqb (s / 1 % 256) t = whole s t ht 0 ∙ ap (λ (b : ℕ). eqb b t) (omega arith) in
     rw (tops-marks t s ht hs)
-    (eqb→eq (joinedTops (marks p q r u) / 8 * 255) (spread (unequal (p && q) (p && q) (r && u) (r && u))) (ways bytesRight tt p q r u)
+    (eqb→eq (joined_tops (marks p q r u) / 8 * 255) (spread (unequal (p && q) (p && q) (r && u) (r && u))) (ways bytes_right tt p q r u)
     ∙ ap₂ (λ (h l : Bool). spread (unequal h h l l)) high low)

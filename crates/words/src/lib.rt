@@ -1,7 +1,7 @@
 // Words of 16 bits, their bytes and nibbles.
 ghost use Rattle.std.specs.Prelude.{◌≡◌, ℕ, ◌/◌, ◌%◌, ◌<◌};
-ghost use Rattle.xosera.specs.Words.{bit, merged, shifted, combined, colourMask};
-ghost use Rattle.xosera.specs.Fields.{shiftCount};
+ghost use Rattle.xosera.specs.Words.{bit, merged, shifted, combined, colour_mask};
+ghost use Rattle.xosera.specs.Fields.{shift_count};
 ghost use Rattle.xosera.specs.HostBytes.{word_of};
 ghost use Rattle.words.specs.Spread.{spread};
 
@@ -61,7 +61,7 @@ pub fn blended(bits: u16, old: u16, new: u16) -> u16
 
 // The shifter: the low nibbles of the word before enter at the top.
 pub fn shifted(shift: u16, before: u16, s: u16) -> u16
-    ensures { result ≡ shifted (shiftCount shift) before s }
+    ensures { result ≡ shifted (shift_count shift) before s }
 {
     let pair = (before as u32) * 65536 + (s as u32);
     ((pair >> ((shift % 4) * 4)) % 65536) as u16
@@ -84,7 +84,7 @@ pub fn bit(k: u16, w: u16) -> bool
 // nibble of `tops` is set where S and T differ, and no sum reaches the next nibble.
 pub fn colour_bits(bytes: bool, t: u16, s: u16) -> u16
     requires { t < 256 }
-    ensures { result ≡ spread (colourMask bytes t s) }
+    ensures { result ≡ spread (colour_mask bytes t s) }
 {
     let x = s ^ (t * 0x0101);
     let tops = (((x & 0x7777) + 0x7777) | x) & 0x8888;

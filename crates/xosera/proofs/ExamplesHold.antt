@@ -8,62 +8,62 @@ use Rattle.xosera.proofs.Computing.{computing}
 pub blit-examples : BlitExamples
 unfolding computing
 blit-examples = record {
-  lineAfterLine = refl;
-  blitAfterBlit = refl;
-  keptWords = refl;
-  keptRange = refl;
-  colourOfSource = refl;
-  colourOfShifted = refl;
-  constantUnshifted = refl;
-  unusedBits = refl;
-  laterRegisters = refl;
-  queuedRegisters = refl;
-  stepCounts = refl;
-  stepMasks = refl;
-  runMasks = refl;
+  line_after_line = refl;
+  blit_after_blit = refl;
+  kept_words = refl;
+  kept_range = refl;
+  colour_of_source = refl;
+  colour_of_shifted = refl;
+  constant_unshifted = refl;
+  unused_bits = refl;
+  later_registers = refl;
+  queued_registers = refl;
+  step_counts = refl;
+  step_masks = refl;
+  run_masks = refl;
 }
 
 pub host-examples : HostExamples
 unfolding computing
 host-examples = record {
   lengths = refl;
-  blitRegisters = refl;
-  reconfigureBit = refl;
+  blit_registers = refl;
+  reconfigure_bit = refl;
   pixels = refl;
-  noPixel = refl;
+  no_pixel = refl;
   sums = refl;
-  registersReadBack = refl;
-  blitterReadsZero = refl;
-  xrMemories = refl;
-  flagsAndBytes = refl;
-  lineUpAndDown = refl;
-  latchEach = refl;
-  dataReads = refl;
-  loadedOnce = refl;
-  timerSaves = refl;
-  maskZero = refl;
-  writeMasks = refl;
-  afterReset = refl;
-  gfxFields = refl;
+  registers_read_back = refl;
+  blitter_reads_zero = refl;
+  xr_memories = refl;
+  flags_and_bytes = refl;
+  line_up_and_down = refl;
+  latch_each = refl;
+  data_reads = refl;
+  loaded_once = refl;
+  timer_saves = refl;
+  mask_zero = refl;
+  write_masks = refl;
+  after_reset = refl;
+  gfx_fields = refl;
 }
 
 pub beam-examples : BeamExamples
 unfolding computing
 beam-examples = record {
-  beamMoves = refl;
-  copperStarts = refl;
+  beam_moves = refl;
+  copper_starts = refl;
   positions = refl;
-  axesIgnored = refl;
-  farPositions = refl;
-  blankPositions = refl;
-  wordsAfter = refl;
-  programWraps = refl;
+  axes_ignored = refl;
+  far_positions = refl;
+  blank_positions = refl;
+  words_after = refl;
+  program_wraps = refl;
   movers = refl;
   moves = refl;
-  movesDropped = refl;
-  moverActs = refl;
-  moverStarts = refl;
-  hostStops = refl;
-  scanlineReads = refl;
-  beamRanges = refl;
+  moves_dropped = refl;
+  mover_acts = refl;
+  mover_starts = refl;
+  host_stops = refl;
+  scanline_reads = refl;
+  beam_ranges = refl;
 }

@@ -9,23 +9,23 @@ use lib.Dec.{eqb, leb}
 use lib.ListN.{length, get_or, set}
 use borrow.Author.Tests.{eqb-true, eqb-false, leb-true, eq-eqb, le-leb, ne_eqb}
 use Rattle.xosera.specs.State.{Timer, Host, State, is_set}
-use Rattle.xosera.specs.Fields.{blitDone, allStatus}
+use Rattle.xosera.specs.Fields.{blit_done, all_status}
 use Rattle.xosera.specs.Adapter.{Adapter, state_of}
 use Rattle.xosera.specs.Beam.{frame}
 use Rattle.xosera.specs.TimerTick.{expires, lowered, ticked}
 use Rattle.xosera.specs.Blitter.{fetched, next, stepped, steps}
-use Rattle.xosera.specs.Ranges.{Running, timerInRange, are_bytes, hostInRange, engineInRange, beamInRange, copperInRange, in_range}
+use Rattle.xosera.specs.Ranges.{Running, timer_in_range, are_bytes, host_in_range, engine_in_range, beam_in_range, copper_in_range, in_range}
 use Rattle.xosera.proofs.Branches.{parts}
 use Rattle.xosera.proofs.StepCases.{step-cases, steps-keep}
 use Rattle.xosera.proofs.EngineLaws.{in-range-running, running-in-range, idle-flag, next-running, succeeding-in-range, drawn-length}
 
 -- A state in range, by its parts.
 module _ (s : State) (h : in_range s ≡ true) where
-  pub in-range-host : hostInRange s.host ≡ true
+  pub in-range-host : host_in_range s.host ≡ true
   unfolding in_range
   in-range-host = (simp parts at h).0.0.0.0.0
 
-  pub in-range-status : s.status ≤ allStatus
+  pub in-range-status : s.status ≤ all_status
   unfolding in_range
   in-range-status = (simp parts at h).0.0.0.0.1
 
@@ -33,15 +33,15 @@ module _ (s : State) (h : in_range s ≡ true) where
   unfolding in_range
   in-range-queue = (simp parts at h).0.0.0.1
 
-  pub in-range-engine : engineInRange s.engine ≡ true
+  pub in-range-engine : engine_in_range s.engine ≡ true
   unfolding in_range
   in-range-engine = (simp parts at h).0.0.1
 
-  pub in-range-beam : beamInRange frame s.beam ≡ true
+  pub in-range-beam : beam_in_range frame s.beam ≡ true
   unfolding in_range
   in-range-beam = (simp parts at h).0.1
 
-  pub in-range-copper : copperInRange s.video.coppctrl s.beam ≡ true
+  pub in-range-copper : copper_in_range s.video.coppctrl s.beam ≡ true
   unfolding in_range
   in-range-copper = (simp parts at h).1
 
@@ -52,14 +52,14 @@ module _ (s : State) (h : in_range s ≡ true) where
   pub in-range-unqueued : is_set s.engine.running ≡ false → s.queued ≡ 0
   in-range-unqueued off = omega (arith, in-range-queue, idle-flag s.engine off in-range-engine)
 
-pub parts-in-range : (s : State) → hostInRange s.host ≡ true → s.status ≤ allStatus → s.queued ≤ s.engine.running
-    → engineInRange s.engine ≡ true → beamInRange frame s.beam ≡ true → copperInRange s.video.coppctrl s.beam ≡ true
+pub parts-in-range : (s : State) → host_in_range s.host ≡ true → s.status ≤ all_status → s.queued ≤ s.engine.running
+    → engine_in_range s.engine ≡ true → beam_in_range frame s.beam ≡ true → copper_in_range s.video.coppctrl s.beam ≡ true
     → in_range s ≡ true
 unfolding in_range
 parts-in-range s host status queue engine beam copper = simp parts (((((host, status), queue), engine), beam), copper)
 
 -- A blit step.
-pub status-raised : (bits status : ℕ) → bits ≤ allStatus → status ≤ allStatus → bit_or status bits ≤ allStatus
+pub status-raised : (bits status : ℕ) → bits ≤ all_status → status ≤ all_status → bit_or status bits ≤ all_status
 status-raised bits status b s = omega (arith, or_lt 7 status bits (omega arith) (omega arith))
 
 pub stepped-in-range : (a : Adapter) → in_range (state_of a) ≡ true → in_range (state_of (stepped a)) ≡ true
@@ -70,7 +70,7 @@ stepped-in-range a h =
     let beam = in-range-beam (state_of a) h in
     let copper = in-range-copper (state_of a) h in
     step-cases (λ (b : Adapter). in_range (state_of b) ≡ true) a (λ _. h)
-    (λ r l. parts-in-range _ host (status-raised blitDone a.status (omega arith) status) (omega arith)
+    (λ r l. parts-in-range _ host (status-raised blit_done a.status (omega arith) status) (omega arith)
     (succeeding-in-range (is_set a.queued) a.side.blit) beam copper)
     (λ r l. parts-in-range _ host status (omega (arith, in-range-queue (state_of a) h, eqb-true a.engine.running 1 r))
     (running-in-range _ (next-running a.engine (fetched a.engine a.vram) (in-range-runs (state_of a) h r) l)) beam copper)
@@ -98,30 +98,30 @@ pub record Counts (t : Timer) : Type 0 where
   pub within : t.countdown ≤ t.interval
   pub stopped : t.countdown ≡ 0 → t.interval ≡ 0
 
-abbrev pub countdownTest : ℕ → ℕ → Bool
-countdownTest c i = leb 1 c && leb c i || eqb c 0 && eqb i 0
+abbrev pub countdown_test : ℕ → ℕ → Bool
+countdown_test c i = leb 1 c && leb c i || eqb c 0 && eqb i 0
 
-running-test : (c i : ℕ) → countdownTest (suc c) i ≡ leb (suc c) i
+running-test : (c i : ℕ) → countdown_test (suc c) i ≡ leb (suc c) i
 running-test c i = rw (le-leb 1 (suc c) (omega arith), ne_eqb (suc c) 0 (omega arith)) (go (leb (suc c) i))
   where
     go : (b : Bool) → b || false ≡ b
     go true = refl
     go false = refl
 
-pub timer-facts : (t : Timer) → timerInRange t ≡ true → Counts t
-unfolding timerInRange
+pub timer-facts : (t : Timer) → timer_in_range t ≡ true → Counts t
+unfolding timer_in_range
 timer-facts t h = go t.countdown t.interval refl refl h
   where
-    go : (c i : ℕ) → t.countdown ≡ c → t.interval ≡ i → countdownTest c i ≡ true → Counts t
+    go : (c i : ℕ) → t.countdown ≡ c → t.interval ≡ i → countdown_test c i ≡ true → Counts t
     go zero i c' i' k = let z = eqb-true i 0 k in record { within = omega arith; stopped = λ _. omega arith }
     go (suc c) i c' i' k =
         let l = leb-true (suc c) i (sym (running-test c i) ∙ k) in record { within = omega arith; stopped = λ z. absurd (omega arith) }
 
-pub timer-of : (t : Timer) → Counts t → timerInRange t ≡ true
-unfolding timerInRange
+pub timer-of : (t : Timer) → Counts t → timer_in_range t ≡ true
+unfolding timer_in_range
 timer-of t f = go t.countdown t.interval f.within f.stopped
   where
-    go : (c i : ℕ) → c ≤ i → (c ≡ 0 → i ≡ 0) → countdownTest c i ≡ true
+    go : (c i : ℕ) → c ≤ i → (c ≡ 0 → i ≡ 0) → countdown_test c i ≡ true
     go zero i l z = eq-eqb i 0 (z refl)
     go (suc c) i l z = running-test c i ∙ le-leb (suc c) i l
 
@@ -143,18 +143,18 @@ ticked-saved t h = h
 pub record HostRanged (h : Host) : Type 0 where
   pub nibbles : h.vram.nibbles ≤ 15
   pub intmask : h.intmask ≤ 127
-  pub timer : timerInRange h.timer ≡ true
+  pub timer : timer_in_range h.timer ≡ true
   pub saved : h.timer.saved ≤ 255
   pub latches : are_bytes h.latches ≡ true
 
-pub host-facts : (h : Host) → hostInRange h ≡ true → HostRanged h
-unfolding hostInRange
+pub host-facts : (h : Host) → host_in_range h ≡ true → HostRanged h
+unfolding host_in_range
 host-facts h k =
     let f = simp parts at k in
     record { nibbles = f.0.0.0.0; intmask = f.0.0.0.1; timer = f.0.0.1; saved = f.0.1; latches = f.1 }
 
-pub host-of : (h : Host) → HostRanged h → hostInRange h ≡ true
-unfolding hostInRange
+pub host-of : (h : Host) → HostRanged h → host_in_range h ≡ true
+unfolding host_in_range
 host-of h f = simp parts ((((f.nibbles, f.intmask), f.timer), f.saved), f.latches)
 
 -- A byte put among bytes.

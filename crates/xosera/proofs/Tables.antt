@@ -18,10 +18,10 @@ abbrev pub Each {ℓ} : {A : Type ℓ} → (ℕ → A → Type 0) → List A →
 Each P [] = Unit {0}
 Each P (x ∷ l) = P 0 x × Each (λ k. P (suc k)) l
 
-pub getD-each {ℓ} : {A : Type ℓ} (P : ℕ → A → Type 0) (d : A) (l : List A) → Each P l → ((r : ℕ) → length l ≤ r → P r d) → (r : ℕ) → P r (get_or l r d)
-getD-each P d [] t outside r = outside r (omega arith)
-getD-each P d (x ∷ l) t outside zero = t.0
-getD-each P d (x ∷ l) t outside (suc r) = getD-each (λ k. P (suc k)) d l t.1 (λ k h. outside (suc k) (omega (arith, h))) r
+pub get_or-each {ℓ} : {A : Type ℓ} (P : ℕ → A → Type 0) (d : A) (l : List A) → Each P l → ((r : ℕ) → length l ≤ r → P r d) → (r : ℕ) → P r (get_or l r d)
+get_or-each P d [] t outside r = outside r (omega arith)
+get_or-each P d (x ∷ l) t outside zero = t.0
+get_or-each P d (x ∷ l) t outside (suc r) = get_or-each (λ k. P (suc k)) d l t.1 (λ k h. outside (suc k) (omega (arith, h))) r
 
 -- n numbers from one on.
 abbrev pub AllFrom : (ℕ → Type 0) → ℕ → ℕ → Type 0

@@ -4,15 +4,15 @@ use mathlib.Core.Bool.{true, false}
 use Prim.Native.Nat.{ℕ}
 use borrow.Author.Tests.{ne_eqb}
 use Rattle.xosera.specs.declared.BlitRegs.{BlitRegs}
-use Rattle.xosera.specs.XrSpace.{within, isBlitRegister, put, blitWrite}
+use Rattle.xosera.specs.XrSpace.{within, is_blit_register, put, blit_write}
 use Rattle.xosera.proofs.Branches.{cond_no, clash}
 
-put-outside : (at a w old : ℕ) → isBlitRegister at ≡ true → isBlitRegister a ≡ false → put at a w old ≡ old
+put-outside : (at a w old : ℕ) → is_blit_register at ≡ true → is_blit_register a ≡ false → put at a w old ≡ old
 unfolding put
-put-outside at a w old t f = cond_no w old (ne_eqb a at (λ q. clash t (ap isBlitRegister (sym q) ∙ f)))
+put-outside at a w old t f = cond_no w old (ne_eqb a at (λ q. clash t (ap is_blit_register (sym q) ∙ f)))
 
-pub blit-write-outside : (r : BlitRegs) (a w : ℕ) → isBlitRegister a ≡ false → blitWrite r a w ≡ r
-unfolding blitWrite isBlitRegister within
+pub blit-write-outside : (r : BlitRegs) (a w : ℕ) → is_blit_register a ≡ false → blit_write r a w ≡ r
+unfolding blit_write is_blit_register within
 blit-write-outside r a w f = λ i. record {
   ctrl = put-outside 0x40 a w r.ctrl refl f i;
   andc = put-outside 0x41 a w r.andc refl f i;

@@ -1,6 +1,6 @@
 -- An adapter: the state with both memories.
 use Rattle.std.specs.Prelude.{List, ℕ}
-use Rattle.xosera.specs.State.{Timer, XrPort, VramPort, Host, Video, Beam, State, stateAt}
+use Rattle.xosera.specs.State.{Timer, XrPort, VramPort, Host, Video, Beam, State, state_at}
 use Rattle.xosera.specs.declared.BlitRegs.{BlitRegs}
 use Rattle.xosera.specs.declared.Engine.{Engine}
 
@@ -31,8 +31,8 @@ adapter s vram xr = record {
 }
 
 -- The adapter of the words lent as a state and the two memories lent with them.
-abbrev pub adapterAt : List ℕ → List ℕ → List ℕ → Adapter
-adapterAt words vram xr = adapter (stateAt words) vram xr
+abbrev pub adapter_at : List ℕ → List ℕ → List ℕ → Adapter
+adapter_at words vram xr = adapter (state_at words) vram xr
 
 -- The state of an adapter.
 abbrev pub state_of : Adapter → State
@@ -47,50 +47,50 @@ state_of a = record {
 }
 
 -- A side with another host.
-abbrev pub withHost : Side → Host → Side
-withHost s h = record { host = h; video = s.video; blit = s.blit; beam = s.beam; xr = s.xr }
+abbrev pub with_host : Side → Host → Side
+with_host s h = record { host = h; video = s.video; blit = s.blit; beam = s.beam; xr = s.xr }
 
 -- A side with another beam.
-abbrev pub withBeam : Side → Beam → Side
-withBeam s b = record { host = s.host; video = s.video; blit = s.blit; beam = b; xr = s.xr }
+abbrev pub with_beam : Side → Beam → Side
+with_beam s b = record { host = s.host; video = s.video; blit = s.blit; beam = b; xr = s.xr }
 
 -- A host with one part changed.
-abbrev pub withTimer : Host → Timer → Host
-withTimer h t = record { timer = t; xr = h.xr; vram = h.vram; intmask = h.intmask; latches = h.latches }
+abbrev pub with_timer : Host → Timer → Host
+with_timer h t = record { timer = t; xr = h.xr; vram = h.vram; intmask = h.intmask; latches = h.latches }
 
-abbrev pub withXrPort : Host → XrPort → Host
-withXrPort h p = record { timer = h.timer; xr = p; vram = h.vram; intmask = h.intmask; latches = h.latches }
+abbrev pub with_xr_port : Host → XrPort → Host
+with_xr_port h p = record { timer = h.timer; xr = p; vram = h.vram; intmask = h.intmask; latches = h.latches }
 
-abbrev pub withVramPort : Host → VramPort → Host
-withVramPort h p = record { timer = h.timer; xr = h.xr; vram = p; intmask = h.intmask; latches = h.latches }
+abbrev pub with_vram_port : Host → VramPort → Host
+with_vram_port h p = record { timer = h.timer; xr = h.xr; vram = p; intmask = h.intmask; latches = h.latches }
 
-abbrev pub withIntMask : Host → ℕ → Host
-withIntMask h m = record { timer = h.timer; xr = h.xr; vram = h.vram; intmask = m; latches = h.latches }
+abbrev pub with_int_mask : Host → ℕ → Host
+with_int_mask h m = record { timer = h.timer; xr = h.xr; vram = h.vram; intmask = m; latches = h.latches }
 
-abbrev pub withLatches : Host → List ℕ → Host
-withLatches h l = record { timer = h.timer; xr = h.xr; vram = h.vram; intmask = h.intmask; latches = l }
+abbrev pub with_latches : Host → List ℕ → Host
+with_latches h l = record { timer = h.timer; xr = h.xr; vram = h.vram; intmask = h.intmask; latches = l }
 
 -- A port with one part changed; the XR read address moves together with the buffer.
-abbrev pub withRdXaddr : XrPort → ℕ → ℕ → XrPort
-withRdXaddr p a buffer = record { rdxaddr = record { 0 = a }; wrxaddr = p.wrxaddr; buffer = buffer }
+abbrev pub with_rd_xaddr : XrPort → ℕ → ℕ → XrPort
+with_rd_xaddr p a buffer = record { rdxaddr = record { 0 = a }; wrxaddr = p.wrxaddr; buffer = buffer }
 
-abbrev pub withWrXaddr : XrPort → ℕ → XrPort
-withWrXaddr p a = record { rdxaddr = p.rdxaddr; wrxaddr = record { 0 = a }; buffer = p.buffer }
+abbrev pub with_wr_xaddr : XrPort → ℕ → XrPort
+with_wr_xaddr p a = record { rdxaddr = p.rdxaddr; wrxaddr = record { 0 = a }; buffer = p.buffer }
 
-abbrev pub withNibbles : VramPort → ℕ → VramPort
-withNibbles p m = record { rdincr = p.rdincr; rdaddr = p.rdaddr; wrincr = p.wrincr; wraddr = p.wraddr; buffer = p.buffer; nibbles = m }
+abbrev pub with_nibbles : VramPort → ℕ → VramPort
+with_nibbles p m = record { rdincr = p.rdincr; rdaddr = p.rdaddr; wrincr = p.wrincr; wraddr = p.wraddr; buffer = p.buffer; nibbles = m }
 
-abbrev pub withRdIncr : VramPort → ℕ → VramPort
-withRdIncr p n = record { rdincr = n; rdaddr = p.rdaddr; wrincr = p.wrincr; wraddr = p.wraddr; buffer = p.buffer; nibbles = p.nibbles }
+abbrev pub with_rd_incr : VramPort → ℕ → VramPort
+with_rd_incr p n = record { rdincr = n; rdaddr = p.rdaddr; wrincr = p.wrincr; wraddr = p.wraddr; buffer = p.buffer; nibbles = p.nibbles }
 
-abbrev pub withRdAddr : VramPort → ℕ → VramPort
-withRdAddr p a = record { rdincr = p.rdincr; rdaddr = record { 0 = a }; wrincr = p.wrincr; wraddr = p.wraddr; buffer = p.buffer; nibbles = p.nibbles }
+abbrev pub with_rd_addr : VramPort → ℕ → VramPort
+with_rd_addr p a = record { rdincr = p.rdincr; rdaddr = record { 0 = a }; wrincr = p.wrincr; wraddr = p.wraddr; buffer = p.buffer; nibbles = p.nibbles }
 
-abbrev pub withWrIncr : VramPort → ℕ → VramPort
-withWrIncr p n = record { rdincr = p.rdincr; rdaddr = p.rdaddr; wrincr = n; wraddr = p.wraddr; buffer = p.buffer; nibbles = p.nibbles }
+abbrev pub with_wr_incr : VramPort → ℕ → VramPort
+with_wr_incr p n = record { rdincr = p.rdincr; rdaddr = p.rdaddr; wrincr = n; wraddr = p.wraddr; buffer = p.buffer; nibbles = p.nibbles }
 
-abbrev pub withWrAddr : VramPort → ℕ → VramPort
-withWrAddr p a = record { rdincr = p.rdincr; rdaddr = p.rdaddr; wrincr = p.wrincr; wraddr = record { 0 = a }; buffer = p.buffer; nibbles = p.nibbles }
+abbrev pub with_wr_addr : VramPort → ℕ → VramPort
+with_wr_addr p a = record { rdincr = p.rdincr; rdaddr = p.rdaddr; wrincr = p.wrincr; wraddr = record { 0 = a }; buffer = p.buffer; nibbles = p.nibbles }
 
-abbrev pub withBuffer : VramPort → ℕ → VramPort
-withBuffer p b = record { rdincr = p.rdincr; rdaddr = p.rdaddr; wrincr = p.wrincr; wraddr = p.wraddr; buffer = b; nibbles = p.nibbles }
+abbrev pub with_buffer : VramPort → ℕ → VramPort
+with_buffer p b = record { rdincr = p.rdincr; rdaddr = p.rdaddr; wrincr = p.wrincr; wraddr = p.wraddr; buffer = b; nibbles = p.nibbles }

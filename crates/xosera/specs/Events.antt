@@ -35,17 +35,17 @@ abbrev pub Untouched : Answer → List ℕ → List ℕ → Type 0
 Untouched told before after = (told.refusal ≡ 0 → ⊥) → after ≡ before
 
 -- The answer that each returned struct stands for.
-abbrev pub ofWrite : WriteAnswer → Answer
-ofWrite r = record { refusal = r.refusal; value = 0; mask = r.mask }
+abbrev pub of_write : WriteAnswer → Answer
+of_write r = record { refusal = r.refusal; value = 0; mask = r.mask }
 
-abbrev pub ofRead : ReadAnswer → Answer
-ofRead r = maskless r.refusal r.byte
+abbrev pub of_read : ReadAnswer → Answer
+of_read r = maskless r.refusal r.byte
 
-abbrev pub ofBlit : BlitAnswer → Answer
-ofBlit r = record { refusal = r.refusal; value = r.count; mask = r.mask }
+abbrev pub of_blit : BlitAnswer → Answer
+of_blit r = record { refusal = r.refusal; value = r.count; mask = r.mask }
 
-abbrev pub ofState : StateAnswer → Answer
-ofState r = maskless r.refusal 0
+abbrev pub of_state : StateAnswer → Answer
+of_state r = maskless r.refusal 0
 
-abbrev pub ofLine : LineAnswer → Answer
-ofLine r = maskless r.refusal (cond r.up 1 0)
+abbrev pub of_line : LineAnswer → Answer
+of_line r = maskless r.refusal (cond r.up 1 0)

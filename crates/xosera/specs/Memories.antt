@@ -3,12 +3,12 @@ use Rattle.std.specs.Prelude.{Bool, cond, ◌||◌, List, ℕ, ◌-◌, ◌%◌,
 use Rattle.xosera.specs.Words.{merged}
 
 -- VRAM has a power of two from 256 to 65,536 words.
-unfoldable pub isVramLength : ℕ → Bool
-isVramLength n = eqb n 256 || eqb n 512 || eqb n 1024 || eqb n 2048 || eqb n 4096 || eqb n 8192 || eqb n 16384 || eqb n 32768 || eqb n 65536
+unfoldable pub is_vram_length : ℕ → Bool
+is_vram_length n = eqb n 256 || eqb n 512 || eqb n 1024 || eqb n 2048 || eqb n 4096 || eqb n 8192 || eqb n 16384 || eqb n 32768 || eqb n 65536
 
 -- XR memory has 6,656 words: tile 5,120, then colour 512, then copper 1,024.
-unfoldable pub isXrLength : ℕ → Bool
-isXrLength n = eqb n 6656
+unfoldable pub is_xr_length : ℕ → Bool
+is_xr_length n = eqb n 6656
 
 -- Where a VRAM address lies: it is taken modulo the length when memory is touched.
 unfoldable pub place : List ℕ → ℕ → ℕ
@@ -25,8 +25,8 @@ pub record Store : Type 0 where
   pub value : ℕ
 
 -- No store.
-abbrev pub noStore : Store
-noStore = record { mask = 0; addr = 0; value = 0 }
+abbrev pub no_store : Store
+no_store = record { mask = 0; addr = 0; value = 0 }
 
 -- VRAM after a store: the nibbles under the mask are new, all else stays.
 unfoldable pub stored : Store → List ℕ → List ℕ
@@ -38,9 +38,9 @@ pub record Pixel : Type 0 where
   pub nibble : ℕ
 
 -- The same from the right, as the bits of a mask count.
-abbrev pub fromRight : Pixel → ℕ
-fromRight p = 3 - p.nibble
+abbrev pub from_right : Pixel → ℕ
+from_right p = 3 - p.nibble
 
 -- No such nibble: "over 3 or address not below the VRAM length", by that length.
-unfoldable pub badPixel : ℕ → Pixel → Bool
-badPixel words p = ltb 3 p.nibble || leb words p.address
+unfoldable pub bad_pixel : ℕ → Pixel → Bool
+bad_pixel words p = ltb 3 p.nibble || leb words p.address

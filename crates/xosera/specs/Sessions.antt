@@ -2,17 +2,17 @@
 use Rattle.std.specs.Prelude.{List, [], ◌∷◌, ◌++◌, map, true, false, ℕ, ◌-◌, ◌/◌, ◌%◌, length, replicate, take, drop}
 use Rattle.xosera.specs.Adapter.{Adapter, adapter}
 use Rattle.xosera.specs.Events.{Event, Answer, write, read, call, run}
-use Rattle.xosera.specs.Ranges.{resetState}
+use Rattle.xosera.specs.Ranges.{reset_state}
 
 -- A word written to a main register, to an XR register, and both bytes of a main register read.
-abbrev pub setWord : ℕ → ℕ → List Event
-setWord r w = call (write r false (w / 256)) ∷ call (write r true (w % 256)) ∷ []
+abbrev pub set_word : ℕ → ℕ → List Event
+set_word r w = call (write r false (w / 256)) ∷ call (write r true (w % 256)) ∷ []
 
-abbrev pub setXr : ℕ → ℕ → List Event
-setXr a w = setWord 4 a ++ setWord 5 w
+abbrev pub set_xr : ℕ → ℕ → List Event
+set_xr a w = set_word 4 a ++ set_word 5 w
 
-abbrev pub readWord : ℕ → List Event
-readWord r = call (read r false) ∷ call (read r true) ∷ []
+abbrev pub read_word : ℕ → List Event
+read_word r = call (read r false) ∷ call (read r true) ∷ []
 
 -- A blitter register by its name, and the word that it takes.
 pub data Register : Type 0 where
@@ -32,19 +32,19 @@ address WORDS = 0x49
 
 infix 90 ◌is◌
 abbrev pub ◌is◌ : Register → ℕ → List Event
-r is w = setXr (address r) w
+r is w = set_xr (address r) w
 
 -- A blit by the registers that are named, WORDS last, which starts it. Registers not named are 0 as reset left them, masks F.
 abbrev pub blit : List Event → List Event
 blit named = SHIFT is 0xFF00 ++ named
 
 -- The same with up to 9 of its words drawn.
-abbrev pub blitAndRun : List Event → List Event
-blitAndRun named = blit named ++ run 9 ∷ []
+abbrev pub blit_and_run : List Event → List Event
+blit_and_run named = blit named ++ run 9 ∷ []
 
 -- Reset, 256 words of VRAM that hold FFFF but for some words from 0x10 on, and empty XR memory.
 abbrev pub bench : List ℕ → Adapter
-bench ws = adapter resetState (replicate 16 0xFFFF ++ ws ++ replicate (240 - length ws) 0xFFFF) (replicate 6656 0)
+bench ws = adapter reset_state (replicate 16 0xFFFF ++ ws ++ replicate (240 - length ws) 0xFFFF) (replicate 6656 0)
 
 -- n VRAM words from an address on.
 abbrev pub seen : ℕ → ℕ → Adapter → List ℕ
@@ -54,8 +54,8 @@ seen at n a = take n (drop at a.vram)
 abbrev pub values_of : List Answer → List ℕ
 values_of = map (λ (x : Answer). x.value)
 
-abbrev pub refusalsOf : List Answer → List ℕ
-refusalsOf = map (λ (x : Answer). x.refusal)
+abbrev pub refusals_of : List Answer → List ℕ
+refusals_of = map (λ (x : Answer). x.refusal)
 
-abbrev pub masksOf : List Answer → List ℕ
-masksOf = map (λ (x : Answer). x.mask)
+abbrev pub masks_of : List Answer → List ℕ
+masks_of = map (λ (x : Answer). x.mask)

@@ -69,17 +69,17 @@ abbrev pub is_set : ℕ → Bool
 is_set flag = eqb flag 1
 
 -- The words of a state.
-abbrev pub stateWords : ℕ
-stateWords = 79
+abbrev pub state_words : ℕ
+state_words = 79
 
 -- n words from a place on.
-abbrev pub wordsFrom : ℕ → ℕ → (ℕ → ℕ) → List ℕ
-wordsFrom zero at word = []
-wordsFrom (suc n) at word = word at ∷ wordsFrom n (suc at) word
+abbrev pub words_from : ℕ → ℕ → (ℕ → ℕ) → List ℕ
+words_from zero at word = []
+words_from (suc n) at word = word at ∷ words_from n (suc at) word
 
 -- Ten blitter registers from a place on, in the order of their addresses.
-abbrev pub regsFrom : ℕ → (ℕ → ℕ) → BlitRegs
-regsFrom at word = record {
+abbrev pub regs_from : ℕ → (ℕ → ℕ) → BlitRegs
+regs_from at word = record {
   ctrl = word at;
   andc = word (at + 1);
   xor = word (at + 2);
@@ -93,10 +93,10 @@ regsFrom at word = record {
 }
 
 -- The state by its words: which word stands for which field.
-abbrev pub stateBy : (ℕ → ℕ) → State
-stateBy word = record {
+abbrev pub state_by : (ℕ → ℕ) → State
+state_by word = record {
   host = record {
-    latches = wordsFrom 16 0 word;
+    latches = words_from 16 0 word;
     xr = record { rdxaddr = record { 0 = word 16 }; wrxaddr = record { 0 = word 17 }; buffer = word 18 };
     vram = record {
       rdincr = word 19;
@@ -111,17 +111,17 @@ stateBy word = record {
   };
   queued = word 30;
   status = word 31;
-  engine = record { running = word 32; line = word 33; word = word 34; kept = word 35; regs = regsFrom 36 word };
+  engine = record { running = word 32; line = word 33; word = word 34; kept = word 35; regs = regs_from 36 word };
   video = record {
     vidctrl = word 46;
     coppctrl = word 47;
     audctrl = word 48;
     vidleft = word 49;
     vidright = word 50;
-    pa = wordsFrom 7 51 word;
-    pb = wordsFrom 7 58 word;
+    pa = words_from 7 51 word;
+    pb = words_from 7 58 word;
   };
-  blit = regsFrom 65 word;
+  blit = regs_from 65 word;
   beam = record { line = word 75; position = word 76; running = word 77; word = word 78 };
 }
 
@@ -130,31 +130,31 @@ abbrev pub word_at : List ℕ → ℕ → ℕ
 word_at ws k = get_or ws k 0
 
 -- The state that words stand for.
-unfoldable pub stateAt : List ℕ → State
-stateAt ws = stateBy (word_at ws)
+unfoldable pub state_at : List ℕ → State
+state_at ws = state_by (word_at ws)
 
 -- The words of ten registers.
-unfoldable pub regWords : BlitRegs → List ℕ
-regWords r =
+unfoldable pub reg_words : BlitRegs → List ℕ
+reg_words r =
     r.ctrl ∷ r.andc ∷ r.xor ∷ r.mods ∷ r.srcs ∷ r.modd ∷ r.dstd ∷ r.shift ∷ r.lines ∷ r.words ∷ []
 
 -- The words of beam and copper.
-unfoldable pub beamWords : Beam → List ℕ
-beamWords b = b.line ∷ b.position ∷ b.running ∷ b.word ∷ []
+unfoldable pub beam_words : Beam → List ℕ
+beam_words b = b.line ∷ b.position ∷ b.running ∷ b.word ∷ []
 
 -- All words of a state but those of beam and copper, in their order: its fields one after another. A saved file has these (document 02,
 -- request 1).
-unfoldable pub registerWords : State → List ℕ
-registerWords s =
+unfoldable pub register_words : State → List ℕ
+register_words s =
     let h = s.host in
     let v = s.video in
     let e = s.engine in
     h.latches ++ (h.xr.rdxaddr.0 ∷ h.xr.wrxaddr.0 ∷ h.xr.buffer ∷ [])
     ++ (h.vram.rdincr ∷ h.vram.rdaddr.0 ∷ h.vram.wrincr ∷ h.vram.wraddr.0 ∷ h.vram.buffer ∷ h.vram.nibbles ∷ [])
     ++ (h.timer.count ∷ h.timer.countdown ∷ h.timer.interval ∷ h.timer.saved ∷ h.intmask ∷ s.queued ∷ s.status ∷ [])
-    ++ (e.running ∷ e.line ∷ e.word ∷ e.kept ∷ []) ++ regWords e.regs
-    ++ (v.vidctrl ∷ v.coppctrl ∷ v.audctrl ∷ v.vidleft ∷ v.vidright ∷ []) ++ v.pa ++ v.pb ++ regWords s.blit
+    ++ (e.running ∷ e.line ∷ e.word ∷ e.kept ∷ []) ++ reg_words e.regs
+    ++ (v.vidctrl ∷ v.coppctrl ∷ v.audctrl ∷ v.vidleft ∷ v.vidright ∷ []) ++ v.pa ++ v.pb ++ reg_words s.blit
 
 -- All words of a state.
-unfoldable pub laidOut : State → List ℕ
-laidOut s = registerWords s ++ beamWords s.beam
+unfoldable pub laid_out : State → List ℕ
+laid_out s = register_words s ++ beam_words s.beam

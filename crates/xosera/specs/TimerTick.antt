@@ -2,9 +2,9 @@
 use Rattle.std.specs.Prelude.{Bool, false, cond, ℕ, ◌-◌, eqb}
 use Rattle.xosera.specs.State.{Timer}
 use Rattle.xosera.specs.Words.{wrap}
-use Rattle.xosera.specs.Fields.{timerExpired}
-use Rattle.xosera.specs.Memories.{noStore}
-use Rattle.xosera.specs.Adapter.{Side, withHost, withTimer}
+use Rattle.xosera.specs.Fields.{timer_expired}
+use Rattle.xosera.specs.Memories.{no_store}
+use Rattle.xosera.specs.Adapter.{Side, with_host, with_timer}
 use Rattle.xosera.specs.Plan.{Act, unchanged, raised}
 
 -- The countdown that this tick brings to 0.
@@ -22,9 +22,9 @@ ticked t = record { count = wrap t.count 1; countdown = lowered t; interval = t.
 -- A countdown that reaches 0 sets status bit 5.
 unfoldable pub tick : Side → Act
 tick s = record {
-  side = withHost s (withTimer s.host (ticked s.host.timer));
-  store = noStore;
+  side = with_host s (with_timer s.host (ticked s.host.timer));
+  store = no_store;
   load = false;
   start = false;
-  status = cond (expires s.host.timer) (raised timerExpired) unchanged;
+  status = cond (expires s.host.timer) (raised timer_expired) unchanged;
 }

@@ -15,8 +15,8 @@ unfoldable pub nibble : ℕ → ℕ → ℕ
 nibble k w = w / 16 ^ k % 16
 
 -- A number with bit k taken out.
-unfoldable pub withoutBit : ℕ → ℕ → ℕ
-withoutBit k w = w - w / 2 ^ k % 2 * 2 ^ k
+unfoldable pub without_bit : ℕ → ℕ → ℕ
+without_bit k w = w - w / 2 ^ k % 2 * 2 ^ k
 
 -- Nibble k of `new` where bit k of the mask is set, of `old` where it is clear, in its place.
 unfoldable pub chosen : ℕ → ℕ → ℕ → ℕ → ℕ
@@ -36,9 +36,9 @@ combined s andc xor = bit_xor (bit_and s (65535 - andc)) xor
 
 -- Whether the colour test finds nibble k of S equal to T: the upper nibble of T stands against bits 15:12 and 7:4,
 -- the lower against 11:8 and 3:0; or the byte that holds the nibble against the whole of T ("The blitter", point 4).
-unfoldable pub isColour : Bool → ℕ → ℕ → ℕ → Bool
-isColour bytes t s k = cond bytes (eqb (s / 256 ^ (k / 2) % 256) t) (eqb (nibble k s) (nibble (k % 2) t))
+unfoldable pub is_colour : Bool → ℕ → ℕ → ℕ → Bool
+is_colour bytes t s k = cond bytes (eqb (s / 256 ^ (k / 2) % 256) t) (eqb (nibble k s) (nibble (k % 2) t))
 
 -- The nibbles that the colour test lets through, as a mask.
-unfoldable pub colourMask : Bool → ℕ → ℕ → ℕ
-colourMask bytes t s = cond (isColour bytes t s 3) 0 8 + cond (isColour bytes t s 2) 0 4 + cond (isColour bytes t s 1) 0 2 + cond (isColour bytes t s 0) 0 1
+unfoldable pub colour_mask : Bool → ℕ → ℕ → ℕ
+colour_mask bytes t s = cond (is_colour bytes t s 3) 0 8 + cond (is_colour bytes t s 2) 0 4 + cond (is_colour bytes t s 1) 0 2 + cond (is_colour bytes t s 0) 0 1

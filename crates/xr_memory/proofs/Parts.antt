@@ -9,7 +9,7 @@ use lib.Dec.{leb}
 use lib.ListN.{get_or, take, drop, get_or-eq_default}
 use lib.Seq.{get_or-take, get_or-drop}
 use Rattle.xosera.specs.State.{Video, Beam}
-use Rattle.xosera.specs.XrSpace.{within, lowRegisters, registerRead}
+use Rattle.xosera.specs.XrSpace.{within, low_registers, register_read}
 use Rattle.xosera.proofs.Branches.{parts}
 
 -- A test that the code made is the one that the definition names.
@@ -31,10 +31,10 @@ unfolding within
 above-range base n a h = rw (le-ltb a (base + n) h) (and-false (leb base a))
 
 -- No register reads back from 0x20 on.
-pub no_register : (v : Video) (b : Beam) (a : ℕ) → 0x20 ≤ a → registerRead v b a ≡ 0
-unfolding registerRead
+pub no_register : (v : Video) (b : Beam) (a : ℕ) → 0x20 ≤ a → register_read v b a ≡ 0
+unfolding register_read
 no_register v b a h =
-    rw (above-range 0x10 7 a (omega arith), above-range 0x18 7 a (omega arith)) (get_or-eq_default (lowRegisters v b) 0 {n = a} (omega arith))
+    rw (above-range 0x10 7 a (omega arith), above-range 0x18 7 a (omega arith)) (get_or-eq_default (low_registers v b) 0 {n = a} (omega arith))
 
 -- A word of a part is one of the whole.
 pub part-word : (xs : List ℕ) (from n i : ℕ) → i < n → get_or (take n (drop from xs)) i 0 ≡ get_or xs (from + i) 0

@@ -1,7 +1,7 @@
 // XR memory by parts: tile, colour and copper. The colour part is lent on by itself.
 ghost use Rattle.std.specs.Prelude.{◌≡◌, ◌<◌, ◌≤◌, length, get_or, set};
 ghost use Rattle.xosera.specs.State.{Video, Beam};
-ghost use Rattle.xosera.specs.XrSpace.{within, xrRead, xrMemoryWrite};
+ghost use Rattle.xosera.specs.XrSpace.{within, xr_read, xr_memory_write};
 
 use xosera::XrAddr;
 
@@ -35,7 +35,7 @@ fn get_word(part: &[u16], i: usize) -> u16
 // A write to XR memory; one outside the three parts is dropped.
 pub fn store(xr: &mut [u16], a: XrAddr, w: u16)
     requires { length xr.old ≡ 6656 }
-    ensures { xr.new ≡ xrMemoryWrite xr.old a.0 w }
+    ensures { xr.new ≡ xr_memory_write xr.old a.0 w }
 {
     let at = a.0;
     if within(0x4000, 5120, at) {
@@ -56,7 +56,7 @@ pub fn store(xr: &mut [u16], a: XrAddr, w: u16)
 pub fn load(xr: &[u16], a: XrAddr) -> u16
     requires xr_len { length xr.now ≡ 6656 }
     requires le_a { 0x4000 ≤ a.0 }
-    ensures { (v : Video) (b : Beam) → result ≡ xrRead v b xr.now a.0 }
+    ensures { (v : Video) (b : Beam) → result ≡ xr_read v b xr.now a.0 }
 {
     let at = a.0;
     if within(0x4000, 5120, at) {

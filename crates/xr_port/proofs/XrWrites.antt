@@ -2,22 +2,22 @@
 use Rattle.std.proofs.Common.{◌≡◌, ℕ, ◌<◌, ◌≤◌, List, ap, ◌∙◌, arith, ne_eqb}
 use lib.Bits.{bit_or}
 use Rattle.xosera.specs.State.{State}
-use Rattle.xosera.specs.Fields.{frameEnded}
+use Rattle.xosera.specs.Fields.{frame_ended}
 use Rattle.xosera.specs.Memories.{stored}
 use Rattle.xosera.specs.Adapter.{Adapter, adapter}
-use Rattle.xosera.specs.Blitter.{blitStarted}
+use Rattle.xosera.specs.Blitter.{blit_started}
 use Rattle.xosera.specs.Plan.{changed, perform}
 use Rattle.xosera.specs.XrSpace as XrSpace
-use Rattle.xosera.specs.XrSpace.{within, videoWrite, blitWrite, xrMemoryWrite, beamWrite, xrWrite}
+use Rattle.xosera.specs.XrSpace.{within, video_write, blit_write, xr_memory_write, beam_write, xr_write}
 use Rattle.xr_memory.proofs.Parts.{below-range}
-use Rattle.xr_registers.specs.Places.{registerWritten}
+use Rattle.xr_registers.specs.Places.{register_written}
 use Rattle.xr_registers.proofs.Registers.{no-video, no-blit}
 use Rattle.xr_port.specs.Stops.{controlled}
 
 module _ (s : State) (v x : List ℕ) (a w : ℕ) where
   -- Past the registers only memory is written.
-  pub memory-write : 0x4000 ≤ a → adapter s v (xrMemoryWrite x a w) ≡ perform (xrWrite (adapter s v x).side a w) (adapter s v x)
-  unfolding xrWrite perform changed stored beamWrite
+  pub memory-write : 0x4000 ≤ a → adapter s v (xr_memory_write x a w) ≡ perform (xr_write (adapter s v x).side a w) (adapter s v x)
+  unfolding xr_write perform changed stored beam_write
   memory-write h =
       let far : 0x4A ≤ a = omega arith in
       rw (
@@ -29,37 +29,37 @@ module _ (s : State) (v x : List ℕ) (a w : ℕ) where
       )
 
   -- At 0x03 nothing is stored, and status bit 4 is set.
-  abbrev raisedState : State
-  raisedState = record {
+  abbrev raised_state : State
+  raised_state = record {
     host = s.host;
     queued = s.queued;
-    status = bit_or s.status frameEnded;
+    status = bit_or s.status frame_ended;
     engine = s.engine;
     video = s.video;
     blit = s.blit;
     beam = s.beam;
   }
 
-  pub scanline-write : a ≡ 3 → adapter raisedState v x ≡ perform (xrWrite (adapter s v x).side a w) (adapter s v x)
-  unfolding xrWrite perform changed stored videoWrite blitWrite xrMemoryWrite beamWrite XrSpace.put within
+  pub scanline-write : a ≡ 3 → adapter raised_state v x ≡ perform (xr_write (adapter s v x).side a w) (adapter s v x)
+  unfolding xr_write perform changed stored video_write blit_write xr_memory_write beam_write XrSpace.put within
   scanline-write e = rw e
 
   -- At 0x49 a blit starts with the registers as they then stand.
-  pub starting-write : {b : Adapter} {t : State} → a ≡ 0x49 → b ≡ blitStarted (adapter t v x) → t ≡ registerWritten s a w
-      → b ≡ perform (xrWrite (adapter s v x).side a w) (adapter s v x)
-  unfolding xrWrite perform changed stored xrMemoryWrite beamWrite within
-  starting-write e k l = k ∙ ap (λ (t : State). blitStarted (adapter t v x)) l ∙ rw e
+  pub starting-write : {b : Adapter} {t : State} → a ≡ 0x49 → b ≡ blit_started (adapter t v x) → t ≡ register_written s a w
+      → b ≡ perform (xr_write (adapter s v x).side a w) (adapter s v x)
+  unfolding xr_write perform changed stored xr_memory_write beam_write within
+  starting-write e k l = k ∙ ap (λ (t : State). blit_started (adapter t v x)) l ∙ rw e
 
   -- At 0x01 the copper may be stopped.
-  pub control-write : {t u : State} → a ≡ 1 → t ≡ registerWritten s a w → u ≡ controlled t w
-      → adapter u v x ≡ perform (xrWrite (adapter s v x).side a w) (adapter s v x)
-  unfolding xrWrite perform changed stored xrMemoryWrite beamWrite within
+  pub control-write : {t u : State} → a ≡ 1 → t ≡ register_written s a w → u ≡ controlled t w
+      → adapter u v x ≡ perform (xr_write (adapter s v x).side a w) (adapter s v x)
+  unfolding xr_write perform changed stored xr_memory_write beam_write within
   control-write e k l = ap (λ (t : State). adapter t v x) (l ∙ ap (λ (t : State). controlled t w) k) ∙ rw e
 
   -- Any other register is stored, or none.
-  pub register-write : {t : State} → a < 0x4000 → (a ≡ 3 → ⊥) → (a ≡ 0x49 → ⊥) → (a ≡ 1 → ⊥) → t ≡ registerWritten s a w
-      → adapter t v x ≡ perform (xrWrite (adapter s v x).side a w) (adapter s v x)
-  unfolding xrWrite perform changed stored xrMemoryWrite beamWrite
+  pub register-write : {t : State} → a < 0x4000 → (a ≡ 3 → ⊥) → (a ≡ 0x49 → ⊥) → (a ≡ 1 → ⊥) → t ≡ register_written s a w
+      → adapter t v x ≡ perform (xr_write (adapter s v x).side a w) (adapter s v x)
+  unfolding xr_write perform changed stored xr_memory_write beam_write
   register-write h three last one k =
       ap (λ (t : State). adapter t v x) k
       ∙ rw (

@@ -1,8 +1,8 @@
 // The stored registers of the XR space, as words of the state.
 ghost use Rattle.std.specs.Prelude.{◌≡◌, ◌<◌, length};
-ghost use Rattle.xosera.specs.State.{stateWords, stateAt};
-ghost use Rattle.xosera.specs.XrSpace.{registerRead, xrRead};
-ghost use Rattle.xr_registers.specs.Places.{registerPlace, registerWritten};
+ghost use Rattle.xosera.specs.State.{state_words, state_at};
+ghost use Rattle.xosera.specs.XrSpace.{register_read, xr_read};
+ghost use Rattle.xr_registers.specs.Places.{register_place, register_written};
 
 use xosera::{
     AUD_CTRL, BEAM_LINE, BLIT_REGS, COPP_CTRL, PLAYFIELD_A, PLAYFIELD_B, STATE_WORDS, VID_CTRL,
@@ -11,7 +11,7 @@ use xosera::{
 
 // The word that stands for a stored register; STATE_WORDS where nothing is stored.
 fn register_place(at: u16) -> usize
-    ensures { result ≡ registerPlace at }
+    ensures { result ≡ register_place at }
 {
     if xr_memory::within(0x10, 7, at) {
         return PLAYFIELD_A + (at - 0x10) as usize;
@@ -35,8 +35,8 @@ fn register_place(at: u16) -> usize
 
 // A register read. XR_SCANLINE reads the beam's line, the playfields' LINE_ADDR and the blitter's registers read 0.
 fn register_read(s: &[u16], at: u16) -> u16
-    requires { length s.now ≡ stateWords }
-    ensures { result ≡ registerRead (stateAt s.now).video (stateAt s.now).beam at }
+    requires { length s.now ≡ state_words }
+    ensures { result ≡ register_read (state_at s.now).video (state_at s.now).beam at }
 {
     if at >= 0x20 {
         return 0;
@@ -59,8 +59,8 @@ fn register_read(s: &[u16], at: u16) -> u16
 
 // A register written; nothing where none is stored.
 pub fn store_register(s: &mut [u16], at: u16, w: u16)
-    requires { length s.old ≡ stateWords }
-    ensures { stateAt s.new ≡ registerWritten (stateAt s.old) at w }
+    requires { length s.old ≡ state_words }
+    ensures { state_at s.new ≡ register_written (state_at s.old) at w }
 {
     let i = register_place(at);
     if i < STATE_WORDS {
@@ -70,9 +70,9 @@ pub fn store_register(s: &mut [u16], at: u16, w: u16)
 
 // A read anywhere in the XR space.
 pub fn xr_read(s: &[u16], xr: &[u16], a: XrAddr) -> u16
-    requires s_len { length s.now ≡ stateWords }
+    requires s_len { length s.now ≡ state_words }
     requires xr_len { length xr.now ≡ 6656 }
-    ensures { result ≡ xrRead (stateAt s.now).video (stateAt s.now).beam xr.now a.0 }
+    ensures { result ≡ xr_read (state_at s.now).video (state_at s.now).beam xr.now a.0 }
 {
     let at = a.0;
     if at >= 0x4000 {

@@ -4,7 +4,7 @@ use mathlib.Core.Bool.{true, false}
 use borrow.Author.Tests.{not-true, not-false, ne_eqb}
 use Rattle.xosera.specs.Memories.{stored}
 use Rattle.xosera.specs.Plan.{changed, perform}
-use Rattle.xosera.specs.HostBytes.{readByte}
+use Rattle.xosera.specs.HostBytes.{read_byte}
 use borrow.Author.Rules.{rules}
 use Rattle.access.proofs.read.Statement.{statement}
 use Rattle.access.proofs.read.Tie as tie
@@ -17,7 +17,7 @@ is_odd : (c : tie.Else1) → c.before.before.before.before.args.odd ≡ true
 is_odd c = not-false _ c.if1.false
 
 pub read_spec : {M : Type 1} → statement M
-unfolding readByte perform changed stored
+unfolding read_byte perform changed stored
 read_spec =
     tie.close
     (tie.spec

@@ -1,7 +1,7 @@
 -- The latch filled, or the word written.
 use mathlib.Core.Path.{refl}
 use borrow.Author.Tests.{not-true, not-false}
-use Rattle.xosera.specs.HostBytes.{writeByte}
+use Rattle.xosera.specs.HostBytes.{write_byte}
 use borrow.Author.Rules.{rules}
 use Rattle.access.proofs.write.Statement.{statement}
 use Rattle.access.proofs.write.Tie as tie
@@ -13,7 +13,7 @@ same_length : tie.Need-same-length
 same_length c = search rules
 
 returns : tie.Need-returns
-unfolding writeByte
+unfolding write_byte
 returns c =
     let at-fill-latch = c.before.before in
     let at-if1 = at-fill-latch.before.before in
@@ -36,7 +36,7 @@ same-length-4 : tie.Need-same-length-4
 same-length-4 c = search rules
 
 returns-2 : tie.Need-returns-2
-unfolding writeByte
+unfolding write_byte
 returns-2 c =
     let at-write-word = c.before.before.before.before.before.before in
     let at-word-written = at-write-word.before.before.before.before in

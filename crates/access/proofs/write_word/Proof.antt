@@ -3,28 +3,28 @@ use mathlib.Core.Path.{◌≡◌, refl, sym}
 use mathlib.Core.Bool.{true}
 use mathlib.Core.List.{[], ◌∷◌}
 use lib.ListN.{get_or-eq_default}
-use Rattle.xosera.specs.State.{stateBy, word_at, stateAt}
+use Rattle.xosera.specs.State.{state_by, word_at, state_at}
 use Rattle.xosera.specs.Memories.{stored}
-use Rattle.xosera.specs.Adapter.{adapter, adapterAt}
+use Rattle.xosera.specs.Adapter.{adapter, adapter_at}
 use Rattle.xosera.specs.Plan.{changed, perform}
-use Rattle.xosera.specs.XrSpace.{xrWrite}
-use Rattle.xosera.specs.HostBytes.{vramLoad, writes, writeNothing, writeWord}
+use Rattle.xosera.specs.XrSpace.{xr_write}
+use Rattle.xosera.specs.HostBytes.{vram_load, writes, write_nothing, write_word}
 use Rattle.xosera.proofs.Tables.{none_below}
-use Rattle.xosera.proofs.WordLaws.{Stored, ◌takes◌, allPlaced, setAll, put_all, stored-adapter}
+use Rattle.xosera.proofs.WordLaws.{Stored, ◌takes◌, all_placed, set_all, put_all, stored-adapter}
 use borrow.Author.Rules.{rules}
 use Rattle.access.proofs.write_word.Statement.{statement}
 use Rattle.access.proofs.write_word.Tie as tie
 
 -- One word stored since the call's start.
-one_store : (c : tie.After-slice-known3) (p : Stored) → allPlaced (p ∷ []) ≡ true →
+one_store : (c : tie.After-slice-known3) (p : Stored) → all_placed (p ∷ []) ≡ true →
     let a = c.before.before.before.args in
-    adapterAt (setAll a.s.now (p ∷ [])) a.vram.now a.xr.now ≡ adapter (stateBy (put_all (p ∷ []) (word_at a.s.now))) a.vram.now a.xr.now
+    adapter_at (set_all a.s.now (p ∷ [])) a.vram.now a.xr.now ≡ adapter (state_by (put_all (p ∷ []) (word_at a.s.now))) a.vram.now a.xr.now
 one_store c p placed =
     let start = c.before.before.before in
     stored-adapter start.args.s.now start.requires.0 (p ∷ []) placed start.args.vram.now start.args.xr.now
 
 pub write-word-spec : {M : Type 1} → statement M
-unfolding writeWord vramLoad xrWrite stateAt perform changed stored
+unfolding write_word vram_load xr_write state_at perform changed stored
 write-word-spec =
     tie.close
     (tie.spec
@@ -53,4 +53,4 @@ write-word-spec =
     (search rules) (λ c. rw c.match.keys9 (one_store c.before (21 takes _) refl, refl))
     (search rules) (λ c. rw c.match.keys10 (one_store c.before (22 takes _) refl, refl))
     -- All others.
-    (λ c. rw (get_or-eq_default writes writeNothing (none_below _ _ c.match.rest)) (refl, refl)))
+    (λ c. rw (get_or-eq_default writes write_nothing (none_below _ _ c.match.rest)) (refl, refl)))

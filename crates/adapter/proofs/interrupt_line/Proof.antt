@@ -3,13 +3,13 @@ use mathlib.Core.Path.{◌≡◌, refl, sym, ap, ◌∙◌}
 use mathlib.Core.Bool.{Bool, cond}
 use mathlib.Core.List.{List}
 use Prim.Native.Nat.{ℕ}
-use Rattle.xosera.specs.State.{stateAt}
+use Rattle.xosera.specs.State.{state_at}
 use Rattle.xosera.specs.Memories.{stored}
-use Rattle.xosera.specs.Adapter.{Adapter, adapterAt}
+use Rattle.xosera.specs.Adapter.{Adapter, adapter_at}
 use Rattle.xosera.specs.Plan.{changed, perform}
 use Rattle.xosera.specs.Events.{line, call}
 use Rattle.calls.specs.Refusals.{refusal}
-use Rattle.xosera.specs.Acts.{actOf, done, given}
+use Rattle.xosera.specs.Acts.{act_of, done, given}
 use Rattle.refusals.proofs.RefusalOrder.{a-line, state-refusal}
 use Rattle.masks.proofs.AnsweredMasks.{call-wrote}
 use Rattle.calls.proofs.Promised.{refused, performed}
@@ -28,10 +28,10 @@ state-refusal-requires c κs = search rules
 
 -- The words at the call, with any memories, and whether they are refused.
 abbrev here : tie.After-state-refusal → List ℕ → List ℕ → Adapter
-here c = adapterAt c.before.before.before.args.s.now
+here c = adapter_at c.before.before.before.args.s.now
 
 tested : (c : tie.After-state-refusal) (v x : List ℕ) → c.state-refusal.result ≡ refusal (here c v x) (call line)
-tested c v x = c.state-refusal.ensures ∙ sym (state-refusal (stateAt c.before.before.before.args.s.now) v x a-line)
+tested c v x = c.state-refusal.ensures ∙ sym (state-refusal (state_at c.before.before.before.args.s.now) v x a-line)
 
 returns : tie.Need-returns
 returns c = λ v x. refused (here c.before v x) (call line) _ (tested c.before v x) c.if1.true
@@ -40,7 +40,7 @@ line-up-requires : tie.Need-line-up-requires
 line-up-requires c κs = search rules
 
 returns-2 : tie.Need-returns-2
-unfolding done actOf given perform changed stored
+unfolding done act_of given perform changed stored
 returns-2 c =
     let at-if1 = c.before.before in
     let at_test = at-if1.before in

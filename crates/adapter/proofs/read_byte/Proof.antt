@@ -1,9 +1,9 @@
 -- Refused, or done with the byte read first.
 use mathlib.Core.Path.{◌≡◌, refl, sym, ◌∙◌}
-use Rattle.xosera.specs.Adapter.{Adapter, adapterAt}
+use Rattle.xosera.specs.Adapter.{Adapter, adapter_at}
 use Rattle.xosera.specs.Events.{Event, read, call}
 use Rattle.calls.specs.Refusals.{Fit, refusal}
-use Rattle.xosera.specs.Acts.{actOf, done}
+use Rattle.xosera.specs.Acts.{act_of, done}
 use Rattle.refusals.proofs.Accepted.{read-fit}
 use Rattle.masks.proofs.AnsweredMasks.{call-wrote}
 use Rattle.calls.proofs.Promised.{refused, performed}
@@ -25,7 +25,7 @@ abbrev began : tie.After-read-refusal → tie.Start
 began c = c.before.before.before.before.before.before.before.before
 
 abbrev here : tie.After-read-refusal → Adapter
-here c = let a = (began c).args in adapterAt a.s.now a.vram.now a.xr.now
+here c = let a = (began c).args in adapter_at a.s.now a.vram.now a.xr.now
 
 abbrev event : tie.After-read-refusal → Event
 event c = let a = (began c).args in call (read a.reg a.odd)
@@ -51,7 +51,7 @@ read-requires c κs =
     (search rules, (lent.vram, lent.xr))
 
 returns-2 : tie.Need-returns-2
-unfolding done actOf
+unfolding done act_of
 returns-2 c =
     let at-byte-read = c.before.before in
     let at-if1 = at-byte-read.before.before.before in

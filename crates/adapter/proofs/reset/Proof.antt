@@ -1,6 +1,6 @@
 -- All words 0 but two.
 use mathlib.Core.Path.{refl}
-use Rattle.xosera.specs.State.{stateAt}
+use Rattle.xosera.specs.State.{state_at}
 use borrow.Author.Rules.{rules}
 use Rattle.adapter.proofs.reset.Statement.{statement}
 use Rattle.adapter.proofs.reset.Tie as tie
@@ -12,7 +12,7 @@ element-write-s-2 : tie.Need-element-write-s-2
 element-write-s-2 c = search rules
 
 returns : tie.Need-returns
-unfolding stateAt
+unfolding state_at
 returns c = refl
 
 pub reset-spec : {M : Type 1} → statement M

@@ -1,10 +1,10 @@
 -- Refused, or done.
 use mathlib.Core.Path.{◌≡◌, refl, sym, ◌∙◌}
-use Rattle.xosera.specs.State.{stateAt}
-use Rattle.xosera.specs.Adapter.{Adapter, adapterAt}
+use Rattle.xosera.specs.State.{state_at}
+use Rattle.xosera.specs.Adapter.{Adapter, adapter_at}
 use Rattle.xosera.specs.Events.{Event, write, call}
 use Rattle.calls.specs.Refusals.{refusal}
-use Rattle.xosera.specs.Acts.{actOf, done, given, wrote}
+use Rattle.xosera.specs.Acts.{act_of, done, given, wrote}
 use Rattle.xosera.proofs.RangeLaws.{latch-byte}
 use Rattle.calls.proofs.RefusalLaws.{accepted-in-range}
 use Rattle.refusals.proofs.Accepted.{write-fit}
@@ -22,7 +22,7 @@ abbrev began : tie.After-write-refusal → tie.Start
 began c = c.before.before.before.before
 
 abbrev here : tie.After-write-refusal → Adapter
-here c = let a = (began c).args in adapterAt a.s.now a.vram.now a.xr.now
+here c = let a = (began c).args in adapter_at a.s.now a.vram.now a.xr.now
 
 abbrev event : tie.After-write-refusal → Event
 event c = let a = (began c).args in call (write a.reg a.odd a.byte)
@@ -41,7 +41,7 @@ write-requires c κs =
     let at-if1 = c.before.before.before in
     let a = (began at-if1.before).args in
     let fit = write-fit (here at-if1.before) a.reg a.odd a.byte (accepted at-if1) in
-    (search rules, (fit.0.vram, (fit.0.xr, (fit.1, latch-byte (stateAt a.s.now) a.reg fit.0.state))))
+    (search rules, (fit.0.vram, (fit.0.xr, (fit.1, latch-byte (state_at a.s.now) a.reg fit.0.state))))
 
 low-byte-requires : tie.Need-low-byte-requires
 low-byte-requires c κs = search rules
@@ -53,7 +53,7 @@ same-length-2 : tie.Need-same-length-2
 same-length-2 c = search rules
 
 returns-2 : tie.Need-returns-2
-unfolding done actOf given wrote
+unfolding done act_of given wrote
 returns-2 c =
     let at-write = c.before.before.before.before.before in
     let at-if1 = at-write.before.before.before.before in

@@ -1,10 +1,10 @@
 -- Refused, or the beam one pixel on.
 use mathlib.Core.Path.{◌≡◌, refl, sym, ◌∙◌}
-use Rattle.xosera.specs.State.{stateAt}
-use Rattle.xosera.specs.Adapter.{Adapter, adapterAt, state_of}
+use Rattle.xosera.specs.State.{state_at}
+use Rattle.xosera.specs.Adapter.{Adapter, adapter_at, state_of}
 use Rattle.xosera.specs.Events.{beam, call}
 use Rattle.calls.specs.Refusals.{refusal}
-use Rattle.xosera.specs.Acts.{actOf, done, given}
+use Rattle.xosera.specs.Acts.{act_of, done, given}
 use Rattle.xosera.proofs.RangeLaws.{in-range-beam}
 use Rattle.refusals.proofs.Accepted.{beam-fit}
 use Rattle.refusals.proofs.RefusalOrder.{beam-refusal}
@@ -28,10 +28,10 @@ abbrev began : tie.After-lent-refusal → tie.Start
 began c = c.before.before.before.before.before.before.before.before
 
 abbrev here : tie.After-lent-refusal → Adapter
-here c = let a = (began c).args in adapterAt a.s.now a.vram.now a.xr.now
+here c = let a = (began c).args in adapter_at a.s.now a.vram.now a.xr.now
 
 tested : (c : tie.After-lent-refusal) → c.lent-refusal.result ≡ refusal (here c) (call beam)
-tested c = let a = (began c).args in c.lent-refusal.ensures ∙ sym (beam-refusal (stateAt a.s.now) a.vram.now a.xr.now)
+tested c = let a = (began c).args in c.lent-refusal.ensures ∙ sym (beam-refusal (state_at a.s.now) a.vram.now a.xr.now)
 
 accepted : (c : tie.Else1) → refusal (here c.before) (call beam) ≡ 0
 accepted c = sym (tested c.before) ∙ c.if1.false
@@ -49,7 +49,7 @@ same_length : tie.Need-same-length
 same_length c = search rules
 
 returns-2 : tie.Need-returns-2
-unfolding done actOf given
+unfolding done act_of given
 returns-2 c =
     let at-beam-step = c.before.before in
     let at-if1 = at-beam-step.before.before.before in

@@ -1,9 +1,9 @@
 -- Refused, or as many words as are left.
 use mathlib.Core.Path.{◌≡◌, refl, sym, ap, ◌∙◌}
 use Prim.Native.Nat.{ℕ}
-use Rattle.xosera.specs.State.{stateAt}
-use Rattle.xosera.specs.Adapter.{Adapter, adapterAt}
-use Rattle.xosera.specs.Blitter.{nthMask}
+use Rattle.xosera.specs.State.{state_at}
+use Rattle.xosera.specs.Adapter.{Adapter, adapter_at}
+use Rattle.xosera.specs.Blitter.{nth_mask}
 use Rattle.xosera.specs.Events.{run}
 use Rattle.calls.specs.Refusals.{refusal}
 use Rattle.xosera.specs.Acts.{done, given, wrote}
@@ -29,12 +29,12 @@ abbrev began : tie.After-lent-refusal → tie.Start
 began c = c.before.before.before.before.before.before.before.before
 
 abbrev here : tie.After-lent-refusal → Adapter
-here c = let a = (began c).args in adapterAt a.s.now a.vram.now a.xr.now
+here c = let a = (began c).args in adapter_at a.s.now a.vram.now a.xr.now
 
 tested : (c : tie.After-lent-refusal) → c.lent-refusal.result ≡ refusal (here c) (run (began c).args.n)
 tested c =
     let a = (began c).args in
-    c.lent-refusal.ensures ∙ sym (run-refusal (stateAt a.s.now) a.vram.now a.xr.now a.n)
+    c.lent-refusal.ensures ∙ sym (run-refusal (state_at a.s.now) a.vram.now a.xr.now a.n)
 
 accepted : (c : tie.Else1) → refusal (here c.before) (run (began c.before).args.n) ≡ 0
 accepted c = sym (tested c.before) ∙ c.if1.false
@@ -62,7 +62,7 @@ returns-2 c =
     let a = (began at-if1.before).args in
     let told = at-run.run.ensures in
     let count = told.1.0 a.xr.now in
-    let mask = byte_mask c.low_byte.ensures (told.1.1 a.xr.now ∙ ap (λ (k : ℕ). nthMask k (here at-if1.before)) count)
+    let mask = byte_mask c.low_byte.ensures (told.1.1 a.xr.now ∙ ap (λ (k : ℕ). nth_mask k (here at-if1.before)) count)
     (nth-mask-small _ (here at-if1.before)) in (
       performed (here at-if1.before) (run a.n) _ _ _ (accepted at-if1) count mask (told.0 a.xr.now),
       λ n. absurd (n refl),

@@ -1,7 +1,7 @@
 -- Refused, or one word, or none on an idle engine.
 use mathlib.Core.Path.{◌≡◌, refl, sym, ◌∙◌}
-use Rattle.xosera.specs.State.{stateAt}
-use Rattle.xosera.specs.Adapter.{Adapter, adapterAt}
+use Rattle.xosera.specs.State.{state_at}
+use Rattle.xosera.specs.Adapter.{Adapter, adapter_at}
 use Rattle.xosera.specs.Events.{step}
 use Rattle.calls.specs.Refusals.{refusal}
 use Rattle.xosera.specs.Acts.{done, given, wrote}
@@ -27,10 +27,10 @@ abbrev began : tie.After-lent-refusal → tie.Start
 began c = c.before.before.before.before.before.before.before.before
 
 abbrev here : tie.After-lent-refusal → Adapter
-here c = let a = (began c).args in adapterAt a.s.now a.vram.now a.xr.now
+here c = let a = (began c).args in adapter_at a.s.now a.vram.now a.xr.now
 
 tested : (c : tie.After-lent-refusal) → c.lent-refusal.result ≡ refusal (here c) step
-tested c = let a = (began c).args in c.lent-refusal.ensures ∙ sym (step-refusal (stateAt a.s.now) a.vram.now a.xr.now)
+tested c = let a = (began c).args in c.lent-refusal.ensures ∙ sym (step-refusal (state_at a.s.now) a.vram.now a.xr.now)
 
 accepted : (c : tie.Else1) → refusal (here c.before) step ≡ 0
 accepted c = sym (tested c.before) ∙ c.if1.false

@@ -4,8 +4,8 @@ use mathlib.Core.List.{[], ◌∷◌}
 use Prim.Native.Nat.{◌+◌}
 use native.Mathlib.Omega.{arith}
 use borrow.Author.Tests.{eq-eqb, ne_eqb}
-use Rattle.xosera.specs.State.{Beam, word_at, stateAt}
-use Rattle.xosera.specs.Beam.{frame, lineEnds, beamMoved}
+use Rattle.xosera.specs.State.{Beam, word_at, state_at}
+use Rattle.xosera.specs.Beam.{frame, line_ends, beam_moved}
 use Rattle.xosera.specs.Memories.{stored}
 use Rattle.xosera.specs.Plan.{changed, perform}
 use Rattle.xosera.proofs.BeamLaws.{beam-facts, past-reaches-none}
@@ -18,10 +18,10 @@ slice-read-position : tie.Need-slice-read-position
 slice-read-position c = search rules
 
 add-position : tie.Need-overflow-add-position
-unfolding stateAt
+unfolding state_at
 add-position c =
     let start = c.before.before in
-    omega (arith, (beam-facts frame (stateAt start.args.s.now).beam start.requires.1).position)
+    omega (arith, (beam-facts frame (state_at start.args.s.now).beam start.requires.1).position)
 
 next-line-requires : tie.Need-next-line-requires
 next-line-requires c κs = search rules
@@ -30,7 +30,7 @@ same_length : tie.Need-same-length
 same_length c = search rules
 
 returns : tie.Need-returns
-unfolding stateAt perform changed stored beamMoved lineEnds
+unfolding state_at perform changed stored beam_moved line_ends
 returns c =
     let at-next-line = c.before.before in
     let at-if1 = at-next-line.before.before in
@@ -45,7 +45,7 @@ same-length-2 : tie.Need-same-length-2
 same-length-2 c = search rules
 
 returns-2 : tie.Need-returns-2
-unfolding stateAt perform changed stored beamMoved lineEnds
+unfolding state_at perform changed stored beam_moved line_ends
 returns-2 c =
     let start = c.before.before.before in
     let ws = start.args.s.now in

@@ -6,9 +6,9 @@ use native.Mathlib.Omega.{arith}
 use borrow.Author.Tests.{eq-eqb, ne_eqb}
 use lib.Bits.{bit_or}
 use lib.ListN.{length-set}
-use Rattle.xosera.specs.State.{word_at, stateAt}
-use Rattle.xosera.specs.Fields.{frameEnded}
-use Rattle.xosera.specs.Beam.{frame, nextLine, reaches}
+use Rattle.xosera.specs.State.{word_at, state_at}
+use Rattle.xosera.specs.Fields.{frame_ended}
+use Rattle.xosera.specs.Beam.{frame, next_line, reaches}
 use Rattle.xosera.specs.Memories.{stored}
 use Rattle.xosera.specs.Plan.{changed, perform}
 use Rattle.xosera.proofs.BeamLaws.{beam-facts}
@@ -21,10 +21,10 @@ slice-read-line : tie.Need-slice-read-line
 slice-read-line c = search rules
 
 add-line : tie.Need-overflow-add-line
-unfolding stateAt
+unfolding state_at
 add-line c =
     let start = c.before.before in
-    omega (arith, (beam-facts frame (stateAt start.args.s.now).beam start.requires.1).line)
+    omega (arith, (beam-facts frame (state_at start.args.s.now).beam start.requires.1).line)
 
 slice-read-status : tie.Need-slice-read-status
 slice-read-status c = search rules
@@ -51,7 +51,7 @@ same_length : tie.Need-same-length
 same_length c = search rules
 
 returns : tie.Need-returns
-unfolding stateAt perform changed stored reaches nextLine
+unfolding state_at perform changed stored reaches next_line
 returns c =
     let at-if1 = c.before in
     let at-enabled = at-if1.before in
@@ -65,7 +65,7 @@ same-length-2 : tie.Need-same-length-2
 same-length-2 c = search rules
 
 returns-2 : tie.Need-returns-2
-unfolding stateAt perform changed stored reaches nextLine
+unfolding state_at perform changed stored reaches next_line
 returns-2 c =
     let at-if1 = c.before in
     let at-enabled = at-if1.before in
@@ -85,12 +85,12 @@ same-length-3 : tie.Need-same-length-3
 same-length-3 c = search rules
 
 returns-3 : tie.Need-returns-3
-unfolding stateAt perform changed stored reaches nextLine
+unfolding state_at perform changed stored reaches next_line
 returns-3 c =
     let at-if1 = c.before in
     let start = at-if1.before.before.before.before.before.before in
     let ws = start.args.s.now in
-    let stores = (76 takes 0) ∷ (75 takes word_at ws 75 + 1) ∷ (31 takes bit_or (word_at ws 31) frameEnded) ∷ [] in
+    let stores = (76 takes 0) ∷ (75 takes word_at ws 75 + 1) ∷ (31 takes bit_or (word_at ws 31) frame_ended) ∷ [] in
     λ v x. stored-adapter ws start.requires.0 stores refl v x
     ∙ rw (
       ne_eqb (word_at ws 75 + 1) 525 at-if1.if1.false,
@@ -102,7 +102,7 @@ same-length-4 : tie.Need-same-length-4
 same-length-4 c = search rules
 
 returns-4 : tie.Need-returns-4
-unfolding stateAt perform changed stored reaches nextLine
+unfolding state_at perform changed stored reaches next_line
 returns-4 c =
     let at-if1 = c.before in
     let start = at-if1.before.before.before.before.before.before in

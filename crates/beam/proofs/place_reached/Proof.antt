@@ -1,8 +1,8 @@
 -- On the line itself, and on any other.
 use mathlib.Core.Path.{sym, ◌∙◌}
-use Rattle.xosera.specs.State.{stateAt}
+use Rattle.xosera.specs.State.{state_at}
 use Rattle.xosera.specs.Beam.{frame}
-use Rattle.xosera.specs.Copper.{pixelReached}
+use Rattle.xosera.specs.Copper.{pixel_reached}
 use Rattle.beam.proofs.Places.{same_line, other-line}
 use borrow.Author.Rules.{rules}
 use Rattle.beam.proofs.place_reached.Statement.{statement}
@@ -21,19 +21,19 @@ pixel-reached-requires : tie.Need-pixel-reached-requires
 pixel-reached-requires c κs = search rules
 
 returns : tie.Need-returns
-unfolding stateAt pixelReached
+unfolding state_at pixel_reached
 returns c =
     let at-if1 = c.before.before in
     let at-line = at-if1.before in
     let start = at-line.before.before.before in
-    c.pixel-reached.ensures ∙ same_line frame (stateAt start.args.s.now).beam _ _ (at-if1.if1.true ∙ at-line.wait-line.ensures)
+    c.pixel-reached.ensures ∙ same_line frame (state_at start.args.s.now).beam _ _ (at-if1.if1.true ∙ at-line.wait-line.ensures)
 
 returns-2 : tie.Need-returns-2
-unfolding stateAt
+unfolding state_at
 returns-2 c =
     let at-line = c.before in
     let start = at-line.before.before.before in
-    rw (sym at-line.wait-line.ensures) (other-line frame (stateAt start.args.s.now).beam _ _ c.if1.false)
+    rw (sym at-line.wait-line.ensures) (other-line frame (state_at start.args.s.now).beam _ _ c.if1.false)
 
 pub place-reached-spec : {M : Type 1} → statement M
 place-reached-spec =

@@ -1,7 +1,7 @@
 -- By the axes that are ignored.
 use mathlib.Core.Path.{sym, ◌∙◌}
-use Rattle.xosera.specs.State.{stateAt}
-use Rattle.xosera.specs.Copper.{pixelReached, lineReached, positionReached}
+use Rattle.xosera.specs.State.{state_at}
+use Rattle.xosera.specs.Copper.{pixel_reached, line_reached, position_reached}
 use borrow.Author.Rules.{rules}
 use Rattle.beam.proofs.position_reached.Statement.{statement}
 use Rattle.beam.proofs.position_reached.Tie as tie
@@ -13,7 +13,7 @@ ignores-line-requires : tie.Need-ignores-line-requires
 ignores-line-requires c κs = search rules
 
 returns : tie.Need-returns
-unfolding stateAt positionReached pixelReached lineReached
+unfolding state_at position_reached pixel_reached line_reached
 returns c =
     let at-if1 = c.before in
     rw (sym at-if1.before.ignores-line.ensures ∙ at-if1.if1.true, sym at-if1.before.before.ignores-pixel.ensures ∙ c.if2.true)
@@ -25,7 +25,7 @@ pixel-reached-requires : tie.Need-pixel-reached-requires
 pixel-reached-requires c κs = search rules
 
 returns-2 : tie.Need-returns-2
-unfolding stateAt positionReached pixelReached lineReached
+unfolding state_at position_reached pixel_reached line_reached
 returns-2 c =
     let at-if2 = c.before.before in
     let at-if1 = at-if2.before in
@@ -39,7 +39,7 @@ wait-line-requires : tie.Need-wait-line-requires
 wait-line-requires c κs = search rules
 
 returns-3 : tie.Need-returns-3
-unfolding stateAt positionReached pixelReached lineReached
+unfolding state_at position_reached pixel_reached line_reached
 returns-3 c =
     let at-if3 = c.before.before in
     let at-if1 = at-if3.before in
@@ -53,7 +53,7 @@ place-reached-requires : tie.Need-place-reached-requires
 place-reached-requires c κs = search rules
 
 returns-4 : tie.Need-returns-4
-unfolding stateAt positionReached pixelReached lineReached
+unfolding state_at position_reached pixel_reached line_reached
 returns-4 c =
     let at-if3 = c.before in
     let at-if1 = at-if3.before in

@@ -1,7 +1,7 @@
 -- The beam, then the copper if it runs.
 use Rattle.std.proofs.Common.{rules, eq-eqb, ne_eqb}
-use Rattle.xosera.specs.State.{stateAt}
-use Rattle.xosera.specs.Adapter.{adapterAt}
+use Rattle.xosera.specs.State.{state_at}
+use Rattle.xosera.specs.Adapter.{adapter_at}
 use Rattle.copper.proofs.CopperActs.{step-stopped, step-running}
 use Rattle.copper.proofs.beam_step.Statement.{statement}
 use Rattle.copper.proofs.beam_step.Tie as tie
@@ -22,26 +22,26 @@ same-length-2 : tie.Need-same-length-2
 same-length-2 c = search rules
 
 returns : tie.Need-returns
-unfolding stateAt
+unfolding state_at
 returns c =
     let at-instruction = c.before.before.before.before in
     let at-if1 = at-instruction.before.before.before in
     let at-arrive = at-if1.before.before.before.before in
     let start = at-arrive.before.before.before.before in
     let x = start.args.xr.now in
-    λ v. step-running (adapterAt start.args.s.now v x) (at-arrive.arrive.ensures v x) (eq-eqb _ 1 at-if1.if1.true)
+    λ v. step-running (adapter_at start.args.s.now v x) (at-arrive.arrive.ensures v x) (eq-eqb _ 1 at-if1.if1.true)
     (at-instruction.instruction.ensures v)
 
 same-length-3 : tie.Need-same-length-3
 same-length-3 c = search rules
 
 returns-2 : tie.Need-returns-2
-unfolding stateAt
+unfolding state_at
 returns-2 c =
     let at-arrive = c.before.before.before.before in
     let start = at-arrive.before.before.before.before in
     let x = start.args.xr.now in
-    λ v. step-stopped (adapterAt start.args.s.now v x) (at-arrive.arrive.ensures v x) (ne_eqb _ 1 c.if1.false)
+    λ v. step-stopped (adapter_at start.args.s.now v x) (at-arrive.arrive.ensures v x) (ne_eqb _ 1 c.if1.false)
 
 pub beam-step-spec : {M : Type 1} → statement M
 beam-step-spec =

@@ -1,9 +1,9 @@
 -- The sum, modulo the program's length.
 use Rattle.std.proofs.Common.{◌≡◌, ◌+◌, ◌%◌, [], ◌∷◌, refl, ◌∙◌, arith, rules}
-use Rattle.xosera.specs.State.{word_at, stateAt}
+use Rattle.xosera.specs.State.{word_at, state_at}
 use Rattle.xosera.specs.Memories.{stored}
 use Rattle.xosera.specs.Plan.{changed, perform}
-use Rattle.xosera.specs.Copper.{copperAt}
+use Rattle.xosera.specs.Copper.{copper_at}
 use Rattle.xosera.proofs.WordLaws.{◌takes◌, stored-adapter}
 use Rattle.copper.proofs.go_on.Statement.{statement}
 use Rattle.copper.proofs.go_on.Tie as tie
@@ -21,7 +21,7 @@ same_length : tie.Need-same-length
 same_length c = search rules
 
 returns : tie.Need-returns
-unfolding stateAt perform changed stored copperAt
+unfolding state_at perform changed stored copper_at
 returns c =
     let start = c.before.before.before in
     let ws = start.args.s.now in

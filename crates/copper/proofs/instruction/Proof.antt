@@ -1,8 +1,8 @@
 -- By the opcode of the first word.
 use Rattle.std.proofs.Common.{◌≡◌, ℕ, ◌+◌, false, sym, ap, ◌∙◌, rules}
-use Rattle.xosera.specs.State.{word_at, stateAt}
+use Rattle.xosera.specs.State.{word_at, state_at}
 use Rattle.xosera.specs.Fields.{opcode}
-use Rattle.xosera.specs.Copper.{programAt, instruction}
+use Rattle.xosera.specs.Copper.{program_at, instruction}
 use Rattle.copper.proofs.CopperActs.{program-wraps}
 use Rattle.copper.proofs.instruction.Statement.{statement}
 use Rattle.copper.proofs.instruction.Tie as tie
@@ -10,23 +10,23 @@ use Rattle.copper.proofs.instruction.Tie as tie
 -- The two words are those of the program where the copper stands.
 first_word : (c : tie.After-program-word2) →
     let start = c.before.before.before.before.before.before.before.before in
-    programAt start.args.xr.now (word_at start.args.s.now 78) ≡ c.before.before.before.program-word.result
+    program_at start.args.xr.now (word_at start.args.s.now 78) ≡ c.before.before.before.program-word.result
 first_word c = sym c.before.before.before.program-word.ensures
 
 second_word : (c : tie.After-program-word2) →
     let start = c.before.before.before.before.before.before.before.before in
-    programAt start.args.xr.now (word_at start.args.s.now 78 + 1) ≡ c.program-word2.result
+    program_at start.args.xr.now (word_at start.args.s.now 78 + 1) ≡ c.program-word2.result
 second_word c =
     let start = c.before.before.before.before.before.before.before.before in
     let xr = start.args.xr.now in
-    sym (program-wraps xr (word_at start.args.s.now 78)) ∙ sym (ap (programAt xr) c.before.wrapping-add-u16.ensures) ∙ sym c.program-word2.ensures
+    sym (program-wraps xr (word_at start.args.s.now 78)) ∙ sym (ap (program_at xr) c.before.wrapping-add-u16.ensures) ∙ sym c.program-word2.ensures
 
 -- The opcode that an arm is for.
 is : (c : tie.After-opcode) {k : ℕ} → c.opcode.result ≡ k → opcode c.before.before.before.before.program-word.result ≡ k
 is c e = sym c.opcode.ensures ∙ e
 
 pub instruction-spec : {M : Type 1} → statement M
-unfolding stateAt instruction
+unfolding state_at instruction
 instruction-spec =
     tie.close
     (tie.spec

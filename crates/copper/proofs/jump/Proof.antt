@@ -1,9 +1,9 @@
 -- The one store.
 use Rattle.std.proofs.Common.{◌%◌, [], ◌∷◌, refl, rules}
-use Rattle.xosera.specs.State.{stateAt}
+use Rattle.xosera.specs.State.{state_at}
 use Rattle.xosera.specs.Memories.{stored}
 use Rattle.xosera.specs.Plan.{changed, perform}
-use Rattle.xosera.specs.Copper.{copperAt}
+use Rattle.xosera.specs.Copper.{copper_at}
 use Rattle.xosera.proofs.WordLaws.{◌takes◌, stored-adapter}
 use Rattle.copper.proofs.jump.Statement.{statement}
 use Rattle.copper.proofs.jump.Tie as tie
@@ -15,7 +15,7 @@ same_length : tie.Need-same-length
 same_length c = search rules
 
 returns : tie.Need-returns
-unfolding stateAt perform changed stored copperAt
+unfolding state_at perform changed stored copper_at
 returns c = stored-adapter c.args.s.now c.requires ((78 takes c.args.k % 1024) ∷ []) refl
 
 pub jump-spec : {M : Type 1} → statement M

@@ -1,9 +1,9 @@
 -- On by an instruction, then the store.
 use Rattle.std.proofs.Common.{Bool, ◌&&◌, ap, ◌∙◌, arith, rules}
 use mathlib.Core.Bool.{and-false}
-use Rattle.xosera.specs.State.{stateAt}
-use Rattle.xosera.specs.XrSpace.{isBlitRegister}
-use Rattle.xosera.specs.Adapter.{adapterAt}
+use Rattle.xosera.specs.State.{state_at}
+use Rattle.xosera.specs.XrSpace.{is_blit_register}
+use Rattle.xosera.specs.Adapter.{adapter_at}
 use Rattle.xr_memory.proofs.Parts.{above-range}
 use Rattle.xr_port.proofs.XrWrites.{memory-write}
 use Rattle.copper.proofs.CopperActs.{move-made}
@@ -23,7 +23,7 @@ same-length-2 : tie.Need-same-length-2
 same-length-2 c = search rules
 
 returns : tie.Need-returns
-unfolding isBlitRegister
+unfolding is_blit_register
 returns c =
     let at_store = c.before.before in
     let at-go-on = at_store.before.before.before.before in
@@ -33,9 +33,9 @@ returns c =
     let w = start.args.w in
     let high = start.requires.1.1 in
     let on = at-go-on.go_on.new.0 in
-    λ full v. move-made full (adapterAt start.args.s.now v x) a w (at-go-on.go_on.ensures v x)
+    λ full v. move-made full (adapter_at start.args.s.now v x) a w (at-go-on.go_on.ensures v x)
     (ap (λ (b : Bool). full && b) (above-range 0x40 10 a (omega (arith, high))) ∙ and-false full)
-    (ap (adapterAt on v) at_store.store.ensures ∙ memory-write (stateAt on) v x a w high)
+    (ap (adapter_at on v) at_store.store.ensures ∙ memory-write (state_at on) v x a w high)
 
 pub move-memory-spec : {M : Type 1} → statement M
 move-memory-spec =

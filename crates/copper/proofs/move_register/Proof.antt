@@ -1,7 +1,7 @@
 -- On by an instruction, then the write, unless it is dropped.
 use Rattle.std.proofs.Common.{sym, ◌∙◌, rules}
-use Rattle.xosera.specs.State.{stateAt}
-use Rattle.xosera.specs.Adapter.{adapterAt}
+use Rattle.xosera.specs.State.{state_at}
+use Rattle.xosera.specs.Adapter.{adapter_at}
 use Rattle.copper.proofs.CopperActs.{move-dropped, move-made}
 use Rattle.copper.proofs.move_register.Statement.{statement}
 use Rattle.copper.proofs.move_register.Tie as tie
@@ -19,12 +19,12 @@ same_length : tie.Need-same-length
 same_length c = search rules
 
 returns : tie.Need-returns
-unfolding stateAt
+unfolding state_at
 returns c =
     let at-go-on = c.before.before.before in
     let at-dropped = at-go-on.before.before in
     let start = at-dropped.before.before.before in
-    λ v x. move-dropped _ (adapterAt start.args.s.now v x) start.args.a start.args.w (at-go-on.go_on.ensures v x)
+    λ v x. move-dropped _ (adapter_at start.args.s.now v x) start.args.a start.args.w (at-go-on.go_on.ensures v x)
     (sym at-dropped.is-dropped.ensures ∙ c.if1.true)
 
 write-register-requires : tie.Need-write-register-requires
@@ -34,14 +34,14 @@ same-length-2 : tie.Need-same-length-2
 same-length-2 c = search rules
 
 returns-2 : tie.Need-returns-2
-unfolding stateAt
+unfolding state_at
 returns-2 c =
     let at-write = c.before.before in
     let at-if1 = at-write.before.before in
     let at-go-on = at-if1.before.before.before in
     let at-dropped = at-go-on.before.before in
     let start = at-dropped.before.before.before in
-    λ v x. move-made _ (adapterAt start.args.s.now v x) start.args.a start.args.w (at-go-on.go_on.ensures v x)
+    λ v x. move-made _ (adapter_at start.args.s.now v x) start.args.a start.args.w (at-go-on.go_on.ensures v x)
     (sym at-dropped.is-dropped.ensures ∙ at-if1.if1.false) (at-write.write-register.ensures v x)
 
 pub move-register-spec : {M : Type 1} → statement M

@@ -1,6 +1,6 @@
 -- The word at its place.
 use Rattle.std.proofs.Common.{refl, rules}
-use Rattle.xosera.specs.Copper.{programAt}
+use Rattle.xosera.specs.Copper.{program_at}
 use Rattle.copper.proofs.program_word.Statement.{statement}
 use Rattle.copper.proofs.program_word.Tie as tie
 
@@ -17,7 +17,7 @@ shared-slice-read-result : tie.Need-shared-slice-read-result
 shared-slice-read-result c = search rules
 
 returns : tie.Need-returns
-unfolding programAt
+unfolding program_at
 returns c = refl
 
 pub program-word-spec : {M : Type 1} → statement M

@@ -1,5 +1,5 @@
 -- CTRL bit 0.
-use Rattle.xosera.specs.Blitter.{isConstant}
+use Rattle.xosera.specs.Blitter.{is_constant}
 use Rattle.std.proofs.Common.{rules}
 use Rattle.engine.proofs.is_constant.Statement.{statement}
 use Rattle.engine.proofs.is_constant.Tie as tie
@@ -8,7 +8,7 @@ constant-source-requires : tie.Need-constant-source-requires
 constant-source-requires c κs = search rules
 
 returns : tie.Need-returns
-unfolding isConstant
+unfolding is_constant
 returns c = c.constant-source.ensures
 
 pub is-constant-spec : {M : Type 1} → statement M

@@ -1,6 +1,6 @@
 -- The mask has four bits, so it comes back whole.
 use Rattle.std.proofs.Common.{◌≡◌, ◌%◌, ap, ◌∙◌, arith, rules}
-use Rattle.xosera.specs.Blitter.{sourced, writeMask, drawing}
+use Rattle.xosera.specs.Blitter.{sourced, write_mask, drawing}
 use Rattle.xosera.proofs.EngineLaws.{write-mask-small}
 use Rattle.engine.proofs.next_mask.Statement.{statement}
 use Rattle.engine.proofs.next_mask.Tie as tie
@@ -24,9 +24,9 @@ returns c =
     let at-fetch = at_source.before in
     let e = at-fetch.before.before.args.e in
     let s = at_source.source.result in
-    let whole : writeMask e s % 16 ≡ writeMask e s = omega (arith, write-mask-small e s) in
-    c.gathered.ensures (writeMask e s) c.before.write-bits.ensures ∙ whole
-    ∙ ap (writeMask e) (at_source.source.ensures ∙ ap (sourced e) at-fetch.fetch.ensures)
+    let whole : write_mask e s % 16 ≡ write_mask e s = omega (arith, write-mask-small e s) in
+    c.gathered.ensures (write_mask e s) c.before.write-bits.ensures ∙ whole
+    ∙ ap (write_mask e) (at_source.source.ensures ∙ ap (sourced e) at-fetch.fetch.ensures)
 
 pub next-mask-spec : {M : Type 1} → statement M
 next-mask-spec = tie.close (tie.spec fetch-requires source-requires write-bits-requires gathered-requires returns)

@@ -1,7 +1,7 @@
 -- By whether the line ends.
 use Rattle.std.proofs.Common.{sym, ◌∙◌, rules}
 use Rattle.xosera.specs.Words.{wrap}
-use Rattle.xosera.specs.Blitter.{nextSource}
+use Rattle.xosera.specs.Blitter.{next_source}
 use Rattle.engine.proofs.next_source.Statement.{statement}
 use Rattle.engine.proofs.next_source.Tie as tie
 
@@ -15,7 +15,7 @@ wrapping-add-u16-requires : tie.Need-wrapping-add-u16-requires
 wrapping-add-u16-requires c κs = search rules
 
 returns : tie.Need-returns
-unfolding nextSource wrap
+unfolding next_source wrap
 returns c =
     let at-last-word = c.before.before in
     let at-source-up = at-last-word.before in
@@ -23,7 +23,7 @@ returns c =
     rw ends (rw at-source-up.Source-up.ensures at c.wrapping-add-u16.ensures)
 
 returns-2 : tie.Need-returns-2
-unfolding nextSource wrap
+unfolding next_source wrap
 returns-2 c = rw (sym c.before.last_word.ensures ∙ c.if1.false) c.before.before.Source-up.ensures
 
 pub next-source-spec : {M : Type 1} → statement M

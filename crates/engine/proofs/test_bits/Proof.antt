@@ -1,7 +1,7 @@
 -- By CTRL bit 4.
 use Rattle.std.proofs.Common.{sym, ◌∙◌, rules}
 use Rattle.xosera.specs.Words.{bit}
-use Rattle.xosera.specs.Blitter.{testMask}
+use Rattle.xosera.specs.Blitter.{test_mask}
 use Rattle.words.specs.Spread.{spread}
 use Rattle.engine.proofs.test_bits.Statement.{statement}
 use Rattle.engine.proofs.test_bits.Tie as tie
@@ -19,7 +19,7 @@ colour-bits-requires : tie.Need-colour-bits-requires
 colour-bits-requires c κs = search rules
 
 returns : tie.Need-returns
-unfolding testMask
+unfolding test_mask
 returns c =
     let at-colour = c.before in
     let at-bytes = at-colour.before in
@@ -27,7 +27,7 @@ returns c =
     (rw (at-bytes.whole-bytes.ensures, at-colour.test-colour.ensures) at c.colour-bits.ensures)
 
 returns-2 : tie.Need-returns-2
-unfolding testMask spread bit
+unfolding test_mask spread bit
 returns-2 c = rw (sym c.before.colour-tested.ensures ∙ c.if1.false)
 
 pub test-bits-spec : {M : Type 1} → statement M

@@ -1,6 +1,6 @@
 -- The three masks together, before or after they are spread.
 use lib.Bits.{bit_and}
-use Rattle.xosera.specs.Blitter.{firstMask, lastMask, testMask, writeMask}
+use Rattle.xosera.specs.Blitter.{first_mask, last_mask, test_mask, write_mask}
 use Rattle.words.proofs.Nibbles.{spread-and}
 use Rattle.std.proofs.Common.{rules}
 use Rattle.engine.proofs.write_bits.Statement.{statement}
@@ -19,19 +19,19 @@ test-bits-requires : tie.Need-test-bits-requires
 test-bits-requires c κs = search rules
 
 returns : tie.Need-returns
-unfolding writeMask
+unfolding write_mask
 returns c =
     let at-last-mask = c.before.before in
     let at-first-mask = at-last-mask.before in
     let start = at-first-mask.before in
     let a = start.args in
-    let edges = bit_and (firstMask a.e) (lastMask a.e) in
+    let edges = bit_and (first_mask a.e) (last_mask a.e) in
     rw (
       c.before.spread.ensures,
       c.test-bits.ensures,
       at-first-mask.first-mask.ensures,
       at-last-mask.last-mask.ensures,
-      spread-and edges (testMask a.e a.s),
+      spread-and edges (test_mask a.e a.s),
     )
 
 pub write-bits-spec : {M : Type 1} → statement M

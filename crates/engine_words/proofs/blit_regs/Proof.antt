@@ -1,5 +1,5 @@
 -- Ten words.
-use Rattle.xosera.specs.State.{stateAt}
+use Rattle.xosera.specs.State.{state_at}
 use borrow.Author.Rules.{rules}
 use Rattle.engine_words.proofs.blit_regs.Statement.{statement}
 use Rattle.engine_words.proofs.blit_regs.Tie as tie
@@ -8,7 +8,7 @@ regs-from-requires : tie.Need-regs-from-requires
 regs-from-requires c κs = search rules
 
 returns : tie.Need-returns
-unfolding stateAt
+unfolding state_at
 returns c = c.regs-from.ensures
 
 pub blit-regs-spec : {M : Type 1} → statement M

@@ -1,5 +1,5 @@
 -- Four words and ten.
-use Rattle.xosera.specs.State.{stateAt}
+use Rattle.xosera.specs.State.{state_at}
 use borrow.Author.Rules.{rules}
 use Rattle.engine_words.proofs.engine_of.Statement.{statement}
 use Rattle.engine_words.proofs.engine_of.Tie as tie
@@ -20,7 +20,7 @@ shared-slice-read-t10 : tie.Need-shared-slice-read-t10
 shared-slice-read-t10 c = search rules
 
 returns : tie.Need-returns
-unfolding stateAt
+unfolding state_at
 returns c = rw c.before.before.before.before.regs-from.ensures
 
 pub engine-of-spec : {M : Type 1} → statement M

@@ -1,7 +1,7 @@
 -- Fourteen stores.
 use mathlib.Core.Path.{refl}
 use mathlib.Core.List.{[], ◌∷◌}
-use Rattle.xosera.specs.State.{stateAt}
+use Rattle.xosera.specs.State.{state_at}
 use Rattle.xosera.proofs.WordLaws.{◌takes◌, stored-state}
 use lib.ListN.{length-set}
 use native.Mathlib.Omega.{arith}
@@ -55,7 +55,7 @@ same_length : tie.Need-same-length
 same_length c = search rules
 
 returns : tie.Need-returns
-unfolding stateAt
+unfolding state_at
 returns c =
     let e = c.args.e in
     let r = e.regs in

@@ -3,7 +3,7 @@ use mathlib.Core.Path.{ap, ◌∙◌}
 use mathlib.Core.List.{List}
 use Prim.Native.Nat.{ℕ}
 use borrow.Author.Rules.{rules}
-use Rattle.saved_file.specs.SavedFile.{sameBytes}
+use Rattle.saved_file.specs.SavedFile.{same_bytes}
 use Rattle.file_bytes.proofs.are_contents.Statement.{statement}
 use Rattle.file_bytes.proofs.are_contents.Tie as tie
 
@@ -22,7 +22,7 @@ same-requires c κs = search rules
 returns : tie.Need-returns
 returns c =
     let part = c.before.before.before.before.before.before.args.part.now in
-    c.same.ensures ∙ ap (λ (b : List ℕ). sameBytes b part) c.before.before.before.put-contents.ensures
+    c.same.ensures ∙ ap (λ (b : List ℕ). same_bytes b part) c.before.before.before.put-contents.ensures
 
 pub are-contents-spec : {M : Type 1} → statement M
 are-contents-spec = tie.close (tie.spec slice-aggregate-put-contents put-contents-requires slice-aggregate-same same-requires returns)

@@ -6,13 +6,13 @@ use native.Mathlib.Omega.{arith}
 use borrow.Author.Tests.{eq-eqb, ne_eqb}
 use lib.Dec.{eqb}
 use lib.ListN.{length, drop, get_or}
-use Rattle.saved_file.specs.SavedFile.{sameBytes}
+use Rattle.saved_file.specs.SavedFile.{same_bytes}
 use Rattle.saved_file.proofs.SameLaws.{same_next, same_end}
 use Rattle.file_bytes.proofs.same.Statement.{statement}
 use Rattle.file_bytes.proofs.same.Tie as tie
 
 abbrev invariant-loop : tie.invariant-loop
-invariant-loop a b i₀ i = (i ≤ length a) × (sameBytes (drop i a) (drop i b) ≡ sameBytes a b)
+invariant-loop a b i₀ i = (i ≤ length a) × (same_bytes (drop i a) (drop i b) ≡ same_bytes a b)
 
 abbrev decreases-loop : tie.decreases-loop
 decreases-loop a b i₀ i = length a - i
@@ -29,8 +29,8 @@ shared-slice-read-if1-2 c = omega (arith, c.before.before.loop-test.true, c.befo
 -- What decides is the byte at i and those behind it.
 next : (c : tie.In-loop invariant-loop decreases-loop)
     → (eqb (get_or c.before.before.args.a.now c.before.loop.i 0) (get_or c.before.before.args.b.now c.before.loop.i 0)
-    && sameBytes (drop (c.before.loop.i + 1) c.before.before.args.a.now) (drop (c.before.loop.i + 1) c.before.before.args.b.now))
-    ≡ sameBytes c.before.before.args.a.now c.before.before.args.b.now
+    && same_bytes (drop (c.before.loop.i + 1) c.before.before.args.a.now) (drop (c.before.loop.i + 1) c.before.before.args.b.now))
+    ≡ same_bytes c.before.before.args.a.now c.before.before.args.b.now
 next c =
     let start = c.before.before in
     sym (same_next start.args.a.now start.args.b.now c.before.loop.i start.requires c.loop-test.true) ∙ c.before.loop.invariant.1

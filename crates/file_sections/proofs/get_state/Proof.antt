@@ -6,9 +6,9 @@ use native.Mathlib.Omega.{arith}
 use borrow.Author.Rules.{rules}
 use lib.ListN.{length, drop, length-append, length-drop, length-set, drop_of_length-le}
 use lib.Seq.{take_at, sets-eq}
-use Rattle.xosera.specs.State.{stateWords, beamWords}
+use Rattle.xosera.specs.State.{state_words, beam_words}
 use Rattle.xosera.specs.Beam.{rest}
-use Rattle.saved_file.specs.SavedFile.{words_of, heldWords}
+use Rattle.saved_file.specs.SavedFile.{words_of, held_words}
 use Rattle.saved_file.proofs.ByteLaws.{words-length}
 use Rattle.file_sections.proofs.get_state.Statement.{statement}
 use Rattle.file_sections.proofs.get_state.Tie as tie
@@ -39,7 +39,7 @@ module _ (c : tie.After-slice-known2) where
   read_length : length read ≡ 75
   read_length = ap length c.before.before.get-words.ensures ∙ words-length start.args.part.now 75 start.pre.0
 
-  long : length after ≡ stateWords
+  long : length after ≡ state_words
   long = length-append read (drop 75 start.args.s.now) ∙ rw (read_length, length-drop 75 start.args.s.now) (omega (arith, start.pre.1))
 
 slice-write-s : tie.Need-slice-write-s
@@ -58,13 +58,13 @@ same_length : tie.Need-same-length
 same_length c = search rules
 
 returns : tie.Need-returns
-unfolding heldWords beamWords
+unfolding held_words beam_words
 returns c =
-    sets-eq (beamWords rest) (after c) 75 (omega (arith, long c))
-    ∙ ap₂ (λ (p q : List ℕ). p ++ beamWords rest ++ q)
+    sets-eq (beam_words rest) (after c) 75 (omega (arith, long c))
+    ∙ ap₂ (λ (p q : List ℕ). p ++ beam_words rest ++ q)
     (take_at (read c) (drop 75 (start c).args.s.now) 75 (read_length c) ∙ c.before.before.get-words.ensures)
     (drop_of_length-le (after c) {i = 79} (omega (arith, long c)))
-    ∙ append-nil (words_of (start c).args.part.now ++ beamWords rest)
+    ∙ append-nil (words_of (start c).args.part.now ++ beam_words rest)
 
 pub get-state-spec : {M : Type 1} → statement M
 get-state-spec =

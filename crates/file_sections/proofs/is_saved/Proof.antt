@@ -7,19 +7,19 @@ use native.Mathlib.Omega.{arith}
 use borrow.Author.Rules.{rules}
 use borrow.Author.Tests.{not-true, not-false}
 use lib.ListN.{length, take, drop}
-use Rattle.xosera.specs.State.{stateAt}
-use Rattle.xosera.specs.Memories.{isVramLength}
+use Rattle.xosera.specs.State.{state_at}
+use Rattle.xosera.specs.Memories.{is_vram_length}
 use Rattle.xosera.specs.Ranges.{in_range}
 use Rattle.xosera.proofs.Branches.{not-passed, clash}
 use Rattle.vram.proofs.Lengths.{length-bounds}
-use Rattle.saved_file.specs.SavedFile.{contents, heldWords, held, sameBytes, isSaved}
+use Rattle.saved_file.specs.SavedFile.{contents, held_words, held, same_bytes, is_saved}
 use Rattle.saved_file.proofs.SavedLaws.{IsSaved, saved-facts, saved-test}
 use Rattle.file_sections.proofs.is_saved.Statement.{statement}
 use Rattle.file_sections.proofs.is_saved.Tie as tie
 
 -- What is no saved adapter.
-refused : (f : List ℕ) → (IsSaved f → ⊥) → false ≡ isSaved f
-refused f fails = sym (not-passed (isSaved f) (λ h. fails (saved-facts f h)))
+refused : (f : List ℕ) → (IsSaved f → ⊥) → false ≡ is_saved f
+refused f fails = sym (not-passed (is_saved f) (λ h. fails (saved-facts f h)))
 
 returns : tie.Need-returns
 returns c = refused c.before.before.args.file.now (λ s. absurd (omega (arith, s.size, c.if1.true)))
@@ -35,7 +35,7 @@ returns-3 c =
     let test = c.before in
     let f = test.before.before.before.before.args.file.now in
     let half : (s : IsSaved f) → (length f - 13490) / 2 ≡ length (held f).vram = λ s. omega (arith, s.size) in
-    refused f (λ s. clash (ap isVramLength (half s) ∙ s.fit.vram) (sym test.is-vram-length.ensures ∙ not-true _ c.if3.true))
+    refused f (λ s. clash (ap is_vram_length (half s) ∙ s.fit.vram) (sym test.is-vram-length.ensures ∙ not-true _ c.if3.true))
 
 -- Where the length is one that a file has, contents and state decide.
 module _ (c : tie.Else3) where
@@ -45,14 +45,14 @@ module _ (c : tie.Else3) where
   abbrev vram : ℕ
   vram = (length file - 13490) / 2
 
-  abbrev legal : isVramLength vram ≡ true
+  abbrev legal : is_vram_length vram ≡ true
   legal = sym c.before.is-vram-length.ensures ∙ not-false _ c.if3.false
 
   pub twice : 2 * vram ≡ length file - 13490
   twice = omega (arith, c.before.before.if2.false)
 
-  pub decided : isSaved file
-      ≡ (sameBytes (contents (150 ∷ 13312 ∷ (length file - 13490) ∷ [])) (take 28 file) && in_range (stateAt (heldWords (take 150 (drop 28 file)))))
+  pub decided : is_saved file
+      ≡ (same_bytes (contents (150 ∷ 13312 ∷ (length file - 13490) ∷ [])) (take 28 file) && in_range (state_at (held_words (take 150 (drop 28 file)))))
   decided =
       let long : length file ≡ 13490 + 2 * vram = omega (arith, twice, c.before.before.before.if1.false) in
       saved-test file vram long (λ i. omega (arith, c.before.before.before.before.shared-slice-known.given i)) legal ∙ rw twice refl

@@ -5,21 +5,21 @@ use mathlib.Core.List.{List}
 use Prim.Native.Nat.{ℕ}
 use borrow.Author.Rules.{rules}
 use borrow.Author.Tests.{not-true, not-false}
-use Rattle.xosera.specs.State.{State, Beam, stateAt}
+use Rattle.xosera.specs.State.{State, Beam, state_at}
 use Rattle.xosera.specs.Beam.{frame, rest}
-use Rattle.xosera.specs.Ranges.{beamInRange, copperInRange, in_range}
-use Rattle.ranges.specs.RangeParts.{registersInRange, blitterInRange, beamCopperInRange}
+use Rattle.xosera.specs.Ranges.{beam_in_range, copper_in_range, in_range}
+use Rattle.ranges.specs.RangeParts.{registers_in_range, blitter_in_range, beam_copper_in_range}
 use Rattle.ranges.proofs.AllParts.{range-parts}
-use Rattle.saved_file.specs.SavedFile.{heldWords}
+use Rattle.saved_file.specs.SavedFile.{held_words}
 use Rattle.saved_file.proofs.RestLaws.{body-rests}
 use Rattle.file_sections.proofs.is_state.Statement.{statement}
 use Rattle.file_sections.proofs.is_state.Tie as tie
 
-rest-in-range : (s : State) → s.beam ≡ rest → in_range s ≡ (registersInRange s && blitterInRange s)
-unfolding beamCopperInRange beamInRange copperInRange
+rest-in-range : (s : State) → s.beam ≡ rest → in_range s ≡ (registers_in_range s && blitter_in_range s)
+unfolding beam_copper_in_range beam_in_range copper_in_range
 rest-in-range s rests =
-    let within = ap (λ (b : Beam). beamInRange frame b && copperInRange s.video.coppctrl b) rests in
-    range-parts s ∙ ap (λ (b : Bool). registersInRange s && blitterInRange s && b) within ∙ and-true (registersInRange s && blitterInRange s)
+    let within = ap (λ (b : Beam). beam_in_range frame b && copper_in_range s.video.coppctrl b) rests in
+    range-parts s ∙ ap (λ (b : Bool). registers_in_range s && blitter_in_range s && b) within ∙ and-true (registers_in_range s && blitter_in_range s)
 
 slice-aggregate-get-state : tie.Need-slice-aggregate-get-state
 slice-aggregate-get-state c = search rules
@@ -36,13 +36,13 @@ module _ (c : tie.After-registers-in-range) where
   read = c.before.before.before
 
   abbrev state : State
-  state = stateAt read.get-state.last.1.0
+  state = state_at read.get-state.last.1.0
 
-  decided : in_range (stateAt (heldWords read.before.before.before.args.part.now)) ≡ (registersInRange state && blitterInRange state)
+  decided : in_range (state_at (held_words read.before.before.before.args.part.now)) ≡ (registers_in_range state && blitter_in_range state)
   decided =
       let part = read.before.before.before.args.part.now in
-      rest-in-range (stateAt (heldWords part)) (body-rests part read.before.before.before.pre)
-      ∙ ap (λ (ws : List ℕ). registersInRange (stateAt ws) && blitterInRange (stateAt ws)) (sym read.get-state.ensures)
+      rest-in-range (state_at (held_words part)) (body-rests part read.before.before.before.pre)
+      ∙ ap (λ (ws : List ℕ). registers_in_range (state_at ws) && blitter_in_range (state_at ws)) (sym read.get-state.ensures)
 
 returns : tie.Need-returns
 returns c = sym (decided c.before ∙ rw (sym c.before.registers-in-range.ensures ∙ not-true _ c.if1.taken))

@@ -6,10 +6,10 @@ use native.Mathlib.Omega.{arith}
 use borrow.Author.Rules.{rules}
 use lib.ListN.{length, take, drop}
 use lib.Seq.{length-take-le}
-use Rattle.xosera.specs.Adapter.{adapterAt}
+use Rattle.xosera.specs.Adapter.{adapter_at}
 use Rattle.saved_file.specs.SavedFile.{bytes_of, saved}
 use Rattle.saved_file.proofs.ByteLaws.{bytes-length}
-use Rattle.saved_file.proofs.SavedLaws.{contentsFor, contents-length, state-bytes, xr-bytes, saved-words, saved-length}
+use Rattle.saved_file.proofs.SavedLaws.{contents_for, contents-length, state-bytes, xr-bytes, saved-words, saved-length}
 use Rattle.file_bytes.proofs.RoomLaws.{laid-length, four-parts}
 use Rattle.file_sections.proofs.put_file.Statement.{statement}
 use Rattle.file_sections.proofs.put_file.Tie as tie
@@ -92,7 +92,7 @@ returns c =
     let size : 13490 + 2 * n - 13490 ≡ 2 * n = omega arith in
     let file = saved-words a.s.now a.vram.now a.xr.now start.requires.1.0 start.requires.0 in
     let state = state-bytes ws (length-take-le 75 a.s.now (omega (arith, start.requires.0))) in
-    four-parts (contentsFor n) (bytes_of ws) (bytes_of a.xr.now) (bytes_of a.vram.now) a.room.now (13490 + 2 * n - 13490)
+    four-parts (contents_for n) (bytes_of ws) (bytes_of a.xr.now) (bytes_of a.vram.now) a.room.now (13490 + 2 * n - 13490)
     (contents-length n) state (xr-bytes a.xr.now start.requires.1.0) (bytes-length a.vram.now ∙ sym size)
     first.put-contents.ensures second.put-words.ensures third.put-words2.ensures c.before.before.put-words3.ensures
     ∙ ap₂ (λ (l : List ℕ) (m : ℕ). l ++ drop m a.room.now) (sym file) (ap (λ (m : ℕ). 13490 + m) size)
@@ -103,7 +103,7 @@ same_length c =
     let start = c.before.before.before.before.before.before.before.before.before.before.before.before.before.before.before.before.before.before.before.before.before in
     let a = start.args in
     let pre = start.pre in
-    laid-length (saved (adapterAt a.s.now a.vram.now a.xr.now)) a.room.now (13490 + 2 * length a.vram.now)
+    laid-length (saved (adapter_at a.s.now a.vram.now a.xr.now)) a.room.now (13490 + 2 * length a.vram.now)
     (saved-length a.s.now a.vram.now a.xr.now pre.1.0) pre.1.1.1 (returns c)
 
 pub put-file-spec : {M : Type 1} → statement M

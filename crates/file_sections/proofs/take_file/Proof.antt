@@ -5,7 +5,7 @@ use native.Mathlib.Omega.{arith}
 use borrow.Author.Rules.{rules}
 use lib.ListN.{length, drop, length-drop}
 use lib.Seq.{take_all}
-use Rattle.xosera.specs.Adapter.{adapterAt}
+use Rattle.xosera.specs.Adapter.{adapter_at}
 use Rattle.saved_file.specs.SavedFile.{words_of, held}
 use Rattle.file_sections.proofs.take_file.Statement.{statement}
 use Rattle.file_sections.proofs.take_file.Tie as tie
@@ -64,7 +64,7 @@ returns c =
     let state = s.get-state.ensures in
     let tail = c.before.before.get-words2.ensures ∙ ap words_of (take_all (length file - 13490) (drop 13490 file) (omega (arith, length-drop 13490 file))) in
     let middle = xr.get-words.ensures in
-    λ i. adapterAt (state i) (tail i) (middle i)
+    λ i. adapter_at (state i) (tail i) (middle i)
 
 pub take-file-spec : {M : Type 1} → statement M
 take-file-spec =

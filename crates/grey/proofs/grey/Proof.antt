@@ -4,7 +4,7 @@ use mathlib.Core.List.{List}
 use Prim.Native.Nat.{ℕ}
 use native.Mathlib.Omega.{arith}
 use lib.ListN.{get_or}
-use Rattle.grey.specs.Grey.{greyLevel}
+use Rattle.grey.specs.Grey.{grey_level}
 use Rattle.grey.proofs.ClaimsHold.{grey-claims}
 use borrow.Author.Rules.{rules}
 use Rattle.grey.proofs.grey.Statement.{statement}
@@ -20,7 +20,7 @@ array-read-result : tie.Need-array-read-result
 array-read-result c = search rules
 
 -- The word after the call.
-left : (c : tie.After-words2) → get_or c.before.grey-words.new.0 0 0 ≡ greyLevel c.before.before.before.args.colour
+left : (c : tie.After-words2) → get_or c.before.grey-words.new.0 0 0 ≡ grey_level c.before.before.before.args.colour
 left c = ap (λ (l : List ℕ). get_or l 0 0) c.before.grey-words.ensures
 
 cast-result : tie.Need-overflow-cast-result

@@ -1,7 +1,7 @@
 -- A nibble of the word, by a shift.
 use native.Mathlib.Omega.{arith}
 use Rattle.xosera.proofs.Quotients.{nibble-at}
-use Rattle.grey.specs.LevelTable.{levelIn}
+use Rattle.grey.specs.LevelTable.{level_in}
 use borrow.Author.Rules.{rules}
 use Rattle.grey.proofs.level_in.Statement.{statement}
 use Rattle.grey.proofs.level_in.Tie as tie
@@ -31,7 +31,7 @@ cast-result-2 : tie.Need-overflow-cast-result-2
 cast-result-2 c = search rules
 
 returns : tie.Need-returns
-unfolding levelIn
+unfolding level_in
 returns c = nibble-at 15 _ _ (omega arith)
 
 pub level-in-spec : {M : Type 1} → statement M

@@ -1,13 +1,13 @@
 -- The rule, by one test over the whole table.
 use Rattle.xosera.specs.Words.{nibble}
-use Rattle.grey.specs.Grey.{level, greyLevel}
-use Rattle.grey.specs.LevelTable.{levelIn}
+use Rattle.grey.specs.Grey.{level, grey_level}
+use Rattle.grey.specs.LevelTable.{level_in}
 use Rattle.grey.proofs.TableRule.{holds-tested}
 use Rattle.grey.proofs.table.Statement.{statement}
 use Rattle.grey.proofs.table.Tie as tie
 
 returns : tie.Need-returns
-unfolding levelIn greyLevel level nibble
+unfolding level_in grey_level level nibble
 returns c = holds-tested _ tt
 
 pub table-spec : {M : Type 1} → statement M

@@ -5,13 +5,13 @@ use native.Mathlib.Omega.{arith}
 use lib.ListN.{length, get_or}
 use Rattle.row_pixels.specs.Fills.{Fills}
 use Rattle.row_pixels.proofs.FillLaws.{fills-none, fills-next}
-use Rattle.grey.specs.LevelTable.{levelIn}
+use Rattle.grey.specs.LevelTable.{level_in}
 use Rattle.grey.proofs.WordsThrough.{fills-mapped}
 use Rattle.grey.proofs.through.Statement.{statement}
 use Rattle.grey.proofs.through.Tie as tie
 
 abbrev invariant-loop : tie.invariant-loop
-invariant-loop table words₀ i₀ words i = (i ≤ length words₀) × Fills 0 i (λ (x : ℕ). levelIn table (get_or words₀ x 0)) words₀ words
+invariant-loop table words₀ i₀ words i = (i ≤ length words₀) × Fills 0 i (λ (x : ℕ). level_in table (get_or words₀ x 0)) words₀ words
 
 abbrev decreases-loop : tie.decreases-loop
 decreases-loop table words₀ i₀ words i = length words₀ - i
@@ -46,7 +46,7 @@ loop-again c =
     let inv = at.loop.invariant in
     let words = at.before.before.args.words.now in
     let below : at.loop.i < length words = omega (arith, c.before.before.loop-test.true, inv.1.same_length) in
-    let result = c.level_in.ensures ∙ ap (levelIn _) (inv.1.behind-it at.loop.i (omega arith)) in
+    let result = c.level_in.ensures ∙ ap (level_in _) (inv.1.behind-it at.loop.i (omega arith)) in
     (omega (arith, below), rw result (fills-next _ (omega arith) below inv.1))
 
 same_length : tie.Need-same-length invariant-loop decreases-loop

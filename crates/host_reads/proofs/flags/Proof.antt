@@ -1,8 +1,8 @@
 -- The sum of the flags' bits.
 use native.Mathlib.Omega.{arith}
-use Rattle.xosera.specs.State.{stateAt}
-use Rattle.xosera.specs.Fields.{flagBits}
-use Rattle.xosera.specs.Beam.{hBlank, vBlank}
+use Rattle.xosera.specs.State.{state_at}
+use Rattle.xosera.specs.Fields.{flag_bits}
+use Rattle.xosera.specs.Beam.{h_blank, v_blank}
 use borrow.Author.Rules.{rules}
 use Rattle.host_reads.proofs.flags.Statement.{statement}
 use Rattle.host_reads.proofs.flags.Tie as tie
@@ -41,7 +41,7 @@ add-result : tie.Need-overflow-add-result
 add-result c = search rules
 
 returns : tie.Need-returns
-unfolding stateAt flagBits hBlank vBlank
+unfolding state_at flag_bits h_blank v_blank
 returns c =
     let at-flag3 = c.before.before in
     let at-flag2 = at-flag3.before.before in

@@ -2,8 +2,8 @@
 use mathlib.Core.Path.{ap, ◌∙◌}
 use Prim.Native.Nat.{ℕ, ◌/◌}
 use native.Mathlib.Omega.{arith}
-use Rattle.xosera.specs.State.{stateAt}
-use Rattle.xosera.specs.HostBytes.{highByte}
+use Rattle.xosera.specs.State.{state_at}
+use Rattle.xosera.specs.HostBytes.{high_byte}
 use Rattle.host_reads.proofs.ReadTables.{past_three, bytes_of}
 use borrow.Author.Rules.{rules}
 use Rattle.host_reads.proofs.high_byte.Statement.{statement}
@@ -31,27 +31,27 @@ high-byte-requires-2 : tie.Need-high-byte-requires-2
 high-byte-requires-2 c κs = search rules
 
 returns : tie.Need-returns
-unfolding stateAt highByte
+unfolding state_at high_byte
 returns c =
     let at-match = c.before in
     rw at-match.match.keys1 c.flags.ensures
 
 returns-2 : tie.Need-returns-2
-unfolding stateAt highByte
+unfolding state_at high_byte
 returns-2 c =
     let at-match = c.before.before in
     let start = at-match.before.before in
-    let bytes = bytes_of (stateAt start.args.s.now) start.requires.1 in
+    let bytes = bytes_of (state_at start.args.s.now) start.requires.1 in
     rw at-match.match.keys2 (c.low_byte.ensures ∙ bytes.intmask)
 
 returns-3 : tie.Need-returns-3
-unfolding stateAt highByte
+unfolding state_at high_byte
 returns-3 c =
     let at-match = c.before.before in
     rw at-match.match.keys3 c.high_byte.ensures
 
 returns-4 : tie.Need-returns-4
-unfolding highByte
+unfolding high_byte
 returns-4 c =
     let at-shown = c.before in
     let at-match = at-shown.before in

@@ -2,8 +2,8 @@
 use mathlib.Core.Path.{ap, ◌∙◌}
 use Prim.Native.Nat.{ℕ, ◌%◌}
 use native.Mathlib.Omega.{arith}
-use Rattle.xosera.specs.State.{stateAt}
-use Rattle.xosera.specs.HostBytes.{lowByte}
+use Rattle.xosera.specs.State.{state_at}
+use Rattle.xosera.specs.HostBytes.{low_byte}
 use Rattle.host_reads.proofs.ReadTables.{past_three, bytes_of}
 use borrow.Author.Rules.{rules}
 use Rattle.host_reads.proofs.low_byte.Statement.{statement}
@@ -34,31 +34,31 @@ low-byte-requires-4 : tie.Need-low-byte-requires-4
 low-byte-requires-4 c κs = search rules
 
 returns : tie.Need-returns
-unfolding stateAt lowByte
+unfolding state_at low_byte
 returns c =
     let at-match = c.before.before in
     let start = at-match.before.before in
-    let bytes = bytes_of (stateAt start.args.s.now) start.requires.1 in
+    let bytes = bytes_of (state_at start.args.s.now) start.requires.1 in
     rw at-match.match.keys1 (c.low_byte.ensures ∙ bytes.nibbles)
 
 returns-2 : tie.Need-returns-2
-unfolding stateAt lowByte
+unfolding state_at low_byte
 returns-2 c =
     let at-match = c.before.before in
     let start = at-match.before.before in
-    let bytes = bytes_of (stateAt start.args.s.now) start.requires.1 in
+    let bytes = bytes_of (state_at start.args.s.now) start.requires.1 in
     rw at-match.match.keys2 (c.low-byte2.ensures ∙ bytes.status)
 
 returns-3 : tie.Need-returns-3
-unfolding stateAt lowByte
+unfolding state_at low_byte
 returns-3 c =
     let at-match = c.before.before in
     let start = at-match.before.before in
-    let bytes = bytes_of (stateAt start.args.s.now) start.requires.1 in
+    let bytes = bytes_of (state_at start.args.s.now) start.requires.1 in
     rw at-match.match.keys3 (c.low-byte3.ensures ∙ bytes.saved)
 
 returns-4 : tie.Need-returns-4
-unfolding lowByte
+unfolding low_byte
 returns-4 c =
     let at-shown = c.before in
     let at-match = at-shown.before in

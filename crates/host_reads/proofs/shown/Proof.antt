@@ -2,7 +2,7 @@
 use mathlib.Core.Path.{◌≡◌, refl}
 use Prim.Native.Nat.{ℕ}
 use Rattle.xosera.proofs.Tables.{◌and◌, within-each}
-use Rattle.xosera.specs.State.{stateAt}
+use Rattle.xosera.specs.State.{state_at}
 use Rattle.xosera.specs.HostBytes.{shown}
 use Rattle.host_reads.proofs.ReadTables.{unshown}
 use borrow.Author.Rules.{rules}
@@ -37,55 +37,55 @@ shared-slice-read-result-9 : tie.Need-shared-slice-read-result-9
 shared-slice-read-result-9 c = search rules
 
 returns : tie.Need-returns
-unfolding stateAt shown
+unfolding state_at shown
 returns c =
     let at-match = c.before in
     rw at-match.match.keys1
 
 returns-2 : tie.Need-returns-2
-unfolding stateAt shown
+unfolding state_at shown
 returns-2 c =
     let at-match = c.before in
     rw at-match.match.keys2
 
 returns-3 : tie.Need-returns-3
-unfolding stateAt shown
+unfolding state_at shown
 returns-3 c =
     let at-match = c.before in
     rw at-match.match.keys3
 
 returns-4 : tie.Need-returns-4
-unfolding stateAt shown
+unfolding state_at shown
 returns-4 c =
     let at-match = c.before in
     rw at-match.match.keys4
 
 returns-5 : tie.Need-returns-5
-unfolding stateAt shown
+unfolding state_at shown
 returns-5 c =
     let at-match = c.before in
     rw at-match.match.keys5
 
 returns-6 : tie.Need-returns-6
-unfolding stateAt shown
+unfolding state_at shown
 returns-6 c =
     let at-match = c.before in
     rw at-match.match.keys6
 
 returns-7 : tie.Need-returns-7
-unfolding stateAt shown
+unfolding state_at shown
 returns-7 c =
     let at-match = c.before in
     rw at-match.match.keys7
 
 returns-8 : tie.Need-returns-8
-unfolding stateAt shown
+unfolding state_at shown
 returns-8 c =
     let at-match = c.before in
     rw at-match.match.keys8
 
 returns-9 : tie.Need-returns-9
-unfolding stateAt shown
+unfolding state_at shown
 returns-9 c =
     let at-match = c.before in
     rw at-match.match.keys9
@@ -97,7 +97,7 @@ returns-10 c =
     let n = c.match.rest in
     let none = n.0.0.0.0.0.0.0.0.1 and n.0.0.0.0.0.0.0.1 and n.0.0.0.0.0.0.1 and n.0.0.0.0.0.1 and n.0.0.0.0.1
     and n.0.0.0.1 and n.0.0.1 and n.0.1 and n.1 and tt in
-    unshown (stateAt start.args.s.now).host reg (λ l h. within-each (λ (k : ℕ). reg ≡ k → ⊥) 9 3 none reg l h refl)
+    unshown (state_at start.args.s.now).host reg (λ l h. within-each (λ (k : ℕ). reg ≡ k → ⊥) 9 3 none reg l h refl)
 
 pub shown-spec : {M : Type 1} → statement M
 shown-spec =

@@ -3,7 +3,7 @@ use mathlib.Core.Path.{refl, ◌∙◌}
 use mathlib.Core.List.{[], ◌∷◌}
 use Prim.Native.Nat.{◌-◌}
 use lib.Bits.{bit_and}
-use Rattle.xosera.specs.State.{word_at, stateAt}
+use Rattle.xosera.specs.State.{word_at, state_at}
 use Rattle.xosera.specs.Memories.{stored}
 use Rattle.xosera.specs.Plan.{changed, perform}
 use Rattle.xosera.proofs.WordLaws.{◌takes◌, stored-adapter}
@@ -33,7 +33,7 @@ same_length : tie.Need-same-length
 same_length c = search rules
 
 returns : tie.Need-returns
-unfolding stateAt perform changed stored
+unfolding state_at perform changed stored
 returns c =
     let start = c.before.before.before.before in
     let ws = start.args.s.now in

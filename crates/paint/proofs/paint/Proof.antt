@@ -1,6 +1,6 @@
 -- Refused by 1 to 3, then by 11 to 13, or the line is painted.
 use Rattle.std.proofs.Common.{ℕ, List, sym, refl, ◌∙◌, rules}
-use Rattle.xosera.specs.State.{stateAt}
+use Rattle.xosera.specs.State.{state_at}
 use Rattle.refusals.proofs.RefusalOrder.{passed-fit}
 use Rattle.scanline.proofs.RefusalOrder.{none-applies}
 use Rattle.paint.proofs.Promised.{paint-lent, paint-refused, paint-done}
@@ -55,7 +55,7 @@ paint-line-requires : tie.Need-paint-line-requires
 paint-line-requires c κs =
     let taken = c.before.before.before in
     let t = taken.before.before in
-    let fit = passed-fit (stateAt (words t)) (vram t) (xr t) refl refl t.lent-refusal.ensures taken.before.if1.false in
+    let fit = passed-fit (state_at (words t)) (vram t) (xr t) refl refl t.lent-refusal.ensures taken.before.if1.false in
     (fit.vram, (fit.xr, (none-applies _ _ _ (sym c.before.before.paint-refusal.ensures ∙ c.before.if2.false)).0))
 
 same_length : tie.Need-same-length

@@ -1,6 +1,6 @@
 -- Word by word.
-use Rattle.xosera.specs.State.{stateAt}
-use Rattle.scanline.specs.Scanline.{playfieldA}
+use Rattle.xosera.specs.State.{state_at}
+use Rattle.scanline.specs.Scanline.{playfield_a}
 use Rattle.std.proofs.Common.{rules}
 use Rattle.paint.proofs.playfield_a.Statement.{statement}
 use Rattle.paint.proofs.playfield_a.Tie as tie
@@ -39,7 +39,7 @@ element-copy-out-t21 : tie.Need-element-copy-out-t21
 element-copy-out-t21 c = search rules
 
 returns : tie.Need-returns
-unfolding playfieldA stateAt
+unfolding playfield_a state_at
 returns c = rw c.before.before.before.before.before.border-index.ensures
 
 pub playfield-a-spec : {M : Type 1} → statement M

@@ -1,7 +1,7 @@
 -- The row's number is at most the line's, so that no product reaches 2 ^ 32; and a sum may be cut before it is wrapped.
 use Rattle.std.proofs.Common.{◌≡◌, ℕ, ◌+◌, ◌*◌, ◌/◌, ◌%◌, ◌<◌, ◌≤◌, mul-le-mul, div-le_self, arith, rules}
 use Rattle.xosera.specs.Words.{wrap}
-use Rattle.scanline.specs.Scanline.{rowStart}
+use Rattle.scanline.specs.Scanline.{row_start}
 use Rattle.paint.proofs.row_start.Statement.{statement}
 use Rattle.paint.proofs.row_start.Tie as tie
 
@@ -38,7 +38,7 @@ below : (n : ℕ) → n % 65536 < 65536
 below n = omega arith
 
 returns : tie.Need-returns
-unfolding rowStart wrap
+unfolding row_start wrap
 returns c = rw (c.wrapping-add-u16.ensures, c.before.before.v-repeat.ensures) (cut _ _, below _)
 
 pub row-start-spec : {M : Type 1} → statement M

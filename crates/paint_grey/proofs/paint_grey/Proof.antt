@@ -2,7 +2,7 @@
 use mathlib.Core.List.{List}
 use Prim.Native.Nat.{ℕ}
 use borrow.Author.Rules.{rules}
-use Rattle.xosera.specs.Adapter.{Adapter, adapterAt}
+use Rattle.xosera.specs.Adapter.{Adapter, adapter_at}
 use Rattle.paint_grey.proofs.Promised.{grey-refused, grey-done}
 use Rattle.paint_grey.proofs.paint_grey.Statement.{statement}
 use Rattle.paint_grey.proofs.paint_grey.Tie as tie
@@ -13,7 +13,7 @@ module _ (c : tie.After-paint) where
   began = c.before.before.before.before.before
 
   abbrev lent : Adapter
-  lent = adapterAt began.args.s.now began.args.vram.now began.args.xr.now
+  lent = adapter_at began.args.s.now began.args.vram.now began.args.xr.now
 
   abbrev pixels : List ℕ
   pixels = began.args.pixels.now

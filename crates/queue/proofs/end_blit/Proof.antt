@@ -1,6 +1,6 @@
 -- Two stores and the next engine.
 use lib.ListN.{length-set}
-use Rattle.xosera.specs.State.{stateAt}
+use Rattle.xosera.specs.State.{state_at}
 use Rattle.queue.proofs.Starts.{end-stored}
 use borrow.Author.Rules.{rules}
 use Rattle.queue.proofs.end_blit.Statement.{statement}
@@ -27,7 +27,7 @@ same_length c =
     simp length-set at at-s.s.given
 
 returns : tie.Need-returns
-unfolding stateAt
+unfolding state_at
 returns c =
     let at-put-engine = c.before.before in
     let at-successor = at-put-engine.before.before.before in

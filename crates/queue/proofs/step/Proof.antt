@@ -3,7 +3,7 @@ use mathlib.Core.Path.{◌≡◌, sym, subst, ◌∙◌}
 use mathlib.Core.Bool.{true}
 use mathlib.Core.List.{List}
 use Prim.Native.Nat.{ℕ}
-use Rattle.xosera.specs.State.{State, is_set, stateAt}
+use Rattle.xosera.specs.State.{State, is_set, state_at}
 use Rattle.xosera.specs.Adapter.{adapter}
 use Rattle.xosera.specs.Ranges.{Running}
 use Rattle.xosera.proofs.StepCases.{idle-mask}
@@ -24,7 +24,7 @@ abbrev began : tie.After-engine-of → tie.Start
 began c = c.before.before.before.before
 
 abbrev state-at : tie.After-engine-of → State
-state-at c = stateAt (began c).args.s.now
+state-at c = state_at (began c).args.s.now
 
 abbrev vram-at : tie.After-engine-of → List ℕ
 vram-at c = (began c).args.vram.now

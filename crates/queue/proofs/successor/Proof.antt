@@ -1,7 +1,7 @@
 -- By whether a blit is queued.
 use mathlib.Core.Path.{sym, ap, ◌∙◌}
 use borrow.Author.Tests.{eq-eqb, ne_eqb}
-use Rattle.xosera.specs.State.{stateAt}
+use Rattle.xosera.specs.State.{state_at}
 use Rattle.xosera.specs.Blitter.{launched, succeeding}
 use Rattle.xosera.proofs.Branches.{cond_yes, cond_no}
 use borrow.Author.Rules.{rules}
@@ -18,7 +18,7 @@ launch-requires : tie.Need-launch-requires
 launch-requires c κs = search rules
 
 returns : tie.Need-returns
-unfolding stateAt succeeding
+unfolding state_at succeeding
 returns c =
     let at-blit-regs = c.before in
     let at-if1 = at-blit-regs.before in
@@ -28,7 +28,7 @@ idle-engine-requires : tie.Need-idle-engine-requires
 idle-engine-requires c κs = search rules
 
 returns-2 : tie.Need-returns-2
-unfolding stateAt succeeding
+unfolding state_at succeeding
 returns-2 c =
     let at-if1 = c.before in
     c.idle-engine.ensures ∙ sym (cond_no _ _ (ne_eqb _ 1 at-if1.if1.false))

@@ -3,8 +3,8 @@ use mathlib.Core.Path.{◌≡◌, ap, ◌∙◌}
 use mathlib.Core.List.{List, []}
 use Prim.Native.Nat.{ℕ, suc, ◌-◌, min}
 use native.Mathlib.Omega.{arith}
-use Rattle.xosera.specs.Adapter.{Adapter, adapterAt}
-use Rattle.xosera.specs.Blitter.{nthMask, wordsLeft}
+use Rattle.xosera.specs.Adapter.{Adapter, adapter_at}
+use Rattle.xosera.specs.Blitter.{nth_mask, words_left}
 use Rattle.engine_runs.proofs.Runs.{long-enough}
 use Rattle.queue_runs.proofs.WholeRuns.{none_done, last-wrote, all_done, still-in-range}
 use borrow.Author.Rules.{rules}
@@ -25,9 +25,9 @@ abbrev began : tie.After-words-left → tie.Start
 began c = c.before.before.before.before
 
 abbrev here : tie.After-words-left → List ℕ → Adapter
-here c x = let a = (began c).args in adapterAt a.s.now a.vram.now x
+here c x = let a = (began c).args in adapter_at a.s.now a.vram.now x
 
-counted : (c : tie.After-smaller) (x : List ℕ) → c.smaller.result ≡ min (began c.before).args.n (wordsLeft (here c.before x))
+counted : (c : tie.After-smaller) (x : List ℕ) → c.smaller.result ≡ min (began c.before).args.n (words_left (here c.before x))
 counted c x =
     let a = (began c.before).args in
     c.smaller.ensures ∙ ap (min a.n) (c.before.words_left.ensures a.vram.now x)
@@ -36,7 +36,7 @@ some : (c : tie.Else1) → suc (c.before.smaller.result - 1) ≡ c.before.smalle
 some c = omega (arith, c.if1.false)
 
 returns : tie.Need-returns
-unfolding nthMask
+unfolding nth_mask
 returns c =
     let at-smaller = c.before in
     let read = at-smaller.before in

@@ -1,7 +1,7 @@
 -- An idle engine, a blit that ends, or one that goes on.
 use mathlib.Core.Path.{sym, ap, subst}
 use mathlib.Core.List.{[]}
-use Rattle.xosera.specs.State.{stateAt}
+use Rattle.xosera.specs.State.{state_at}
 use Rattle.xosera.specs.Adapter.{state_of}
 use Rattle.xosera.specs.Ranges.{Running}
 use Rattle.xosera.proofs.RangeLaws.{in-range-runs}
@@ -21,7 +21,7 @@ returns : tie.Need-returns
 returns c =
     let at-engine-of = c.before.before in
     let start = at-engine-of.before.before.before.before in
-    let s = stateAt start.args.s.now in
+    let s = state_at start.args.s.now in
     let v = start.args.vram.now in
     one-idle s v start.args.n start.requires.1.1 (idle s v at-engine-of.engine-of.ensures c.if1.true)
 
@@ -30,7 +30,7 @@ run-blit-requires c κs =
     let at-if1 = c.before in
     let at-engine-of = at-if1.before.before in
     let start = at-engine-of.before.before.before.before in
-    let s = stateAt start.args.s.now in
+    let s = state_at start.args.s.now in
     let on = running s start.args.vram.now at-engine-of.engine-of.ensures at-if1.if1.false in
     (start.requires.1.0, subst Running (sym at-engine-of.engine-of.ensures) (in-range-runs s start.requires.1.1 on))
 
@@ -50,7 +50,7 @@ returns-2 c =
     let at-run-blit = at-if2.before.before.before in
     let at-engine-of = at-run-blit.before.before.before.before in
     let start = at-engine-of.before.before.before.before in
-    let s = stateAt start.args.s.now in
+    let s = state_at start.args.s.now in
     let v = start.args.vram.now in
     rw (ap state_of (at-end-blit.end-blit.ensures [] [])) (one-over s v start.args.n start.requires.1.1
     (rw at-engine-of.engine-of.ensures at (at-run-blit.run-blit.ensures.over at-if2.if2.true)))
@@ -72,7 +72,7 @@ returns-3 c =
     let at-if1 = at-run-blit.before.before in
     let at-engine-of = at-if1.before.before in
     let start = at-engine-of.before.before.before.before in
-    let s = stateAt start.args.s.now in
+    let s = state_at start.args.s.now in
     let v = start.args.vram.now in
     let on = running s v at-engine-of.engine-of.ensures at-if1.if1.false in
     rw at-put-engine.put-engine.ensures

@@ -4,9 +4,9 @@ use mathlib.Core.List.{[]}
 use Prim.Native.Nat.{◌+◌}
 use native.Mathlib.Omega.{arith}
 use borrow.Author.Tests.{eq-eqb, ne_eqb}
-use Rattle.xosera.specs.State.{State, stateAt}
+use Rattle.xosera.specs.State.{State, state_at}
 use Rattle.xosera.specs.Adapter.{adapter}
-use Rattle.xosera.specs.Blitter.{blitWords, engineLeft, wordsLeft}
+use Rattle.xosera.specs.Blitter.{blit_words, engine_left, words_left}
 use Rattle.xosera.specs.Ranges.{Running}
 use Rattle.xosera.proofs.Branches.{cond_yes, cond_no}
 use Rattle.xosera.proofs.EngineLaws.{launched-running, launched-left}
@@ -25,7 +25,7 @@ abbrev began : tie.After-engine-of → tie.Start
 began c = c.before.before
 
 abbrev state-at : tie.After-engine-of → State
-state-at c = stateAt (began c).args.s.now
+state-at c = state_at (began c).args.s.now
 
 returns : tie.Need-returns
 returns c v x =
@@ -54,26 +54,26 @@ add-result : tie.Need-overflow-add-result
 add-result c = omega (arith, c.words-left2.ensures.1, c.before.before.before.before.before.words_left.ensures.1)
 
 -- The words of the running blit.
-first : (c : tie.After-words-left) → c.words_left.result ≡ engineLeft (state-at c.before.before.before).engine
-first c = c.words_left.ensures.0 ∙ ap engineLeft c.before.before.before.engine-of.ensures
+first : (c : tie.After-words-left) → c.words_left.result ≡ engine_left (state-at c.before.before.before).engine
+first c = c.words_left.ensures.0 ∙ ap engine_left c.before.before.before.engine-of.ensures
 
 returns-2 : tie.Need-returns-2
-unfolding wordsLeft stateAt
+unfolding words_left state_at
 returns-2 c v x =
     let at-launch = c.before in
     let at-if2 = at-launch.before.before in
     let at-words-left = at-if2.before.before in
     let read = at-words-left.before.before.before in
     let regs = at-launch.before.blit-regs.ensures in
-    let second = c.words-left2.ensures.0 ∙ ap engineLeft at-launch.launch.ensures ∙ launched-left _ ∙ ap blitWords regs in
+    let second = c.words-left2.ensures.0 ∙ ap engine_left at-launch.launch.ensures ∙ launched-left _ ∙ ap blit_words regs in
     ap₂ ◌+◌ (first at-words-left) (second ∙ sym (cond_yes _ 0 (eq-eqb (state-at read).queued 1 at-if2.if2.true)))
 
 returns-3 : tie.Need-returns-3
-unfolding wordsLeft stateAt
+unfolding words_left state_at
 returns-3 c v x =
     let at-words-left = c.before.before in
     let read = at-words-left.before.before.before in
-    let none = cond_no (blitWords (state-at read).blit) 0 (ne_eqb (state-at read).queued 1 c.if2.false) in
+    let none = cond_no (blit_words (state-at read).blit) 0 (ne_eqb (state-at read).queued 1 c.if2.false) in
     omega (arith, first at-words-left, none)
 
 pub words-left-spec : {M : Type 1} → statement M

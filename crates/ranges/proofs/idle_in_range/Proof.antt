@@ -4,8 +4,8 @@ use mathlib.Core.Bool.{Bool, ◌&&◌}
 use mathlib.Core.List.{List}
 use Prim.Native.Nat.{ℕ}
 use lib.Dec.{eqb}
-use Rattle.xosera.specs.State.{word_at, stateAt}
-use Rattle.xosera.specs.Ranges.{isNoRegs, idleInRange}
+use Rattle.xosera.specs.State.{word_at, state_at}
+use Rattle.xosera.specs.Ranges.{is_no_regs, idle_in_range}
 use Rattle.ranges.proofs.LaneTests.{lanes-are-none, four-none, grouped}
 use borrow.Author.Rules.{rules}
 use Rattle.ranges.proofs.idle_in_range.Statement.{statement}
@@ -38,7 +38,7 @@ grouped-at ws =
     grouped (e 32) (e 33) (e 34) (e 35) (e 36) (e 37) (e 38) (e 39) (e 40) (e 41) (e 42) (e 43) (e 44) (e 45)
 
 returns : tie.Need-returns
-unfolding stateAt idleInRange isNoRegs
+unfolding state_at idle_in_range is_no_regs
 returns c =
     let at-3 = c.before in
     let at-2 = at-3.before in

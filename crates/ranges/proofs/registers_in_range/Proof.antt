@@ -3,9 +3,9 @@ use mathlib.Core.Path.{◌≡◌, sym, ◌∙◌}
 use mathlib.Core.Bool.{true, ◌&&◌}
 use borrow.Author.Tests.{not-true, not-false, lt-leb, le-leb}
 use lib.Dec.{leb}
-use Rattle.xosera.specs.State.{Host, stateAt}
-use Rattle.xosera.specs.Ranges.{timerInRange, hostInRange}
-use Rattle.ranges.specs.RangeParts.{registersInRange}
+use Rattle.xosera.specs.State.{Host, state_at}
+use Rattle.xosera.specs.Ranges.{timer_in_range, host_in_range}
+use Rattle.ranges.specs.RangeParts.{registers_in_range}
 use borrow.Author.Rules.{rules}
 use Rattle.ranges.proofs.registers_in_range.Statement.{statement}
 use Rattle.ranges.proofs.registers_in_range.Tie as tie
@@ -14,24 +14,24 @@ element-copy-out-if1 : tie.Need-element-copy-out-if1
 element-copy-out-if1 c = search rules
 
 returns : tie.Need-returns
-unfolding stateAt registersInRange hostInRange
+unfolding state_at registers_in_range host_in_range
 returns c = rw (lt-leb _ 15 c.if1.taken)
 
 element-copy-out-if2 : tie.Need-element-copy-out-if2
 element-copy-out-if2 c = search rules
 
 returns-2 : tie.Need-returns-2
-unfolding stateAt registersInRange hostInRange
+unfolding state_at registers_in_range host_in_range
 returns-2 c =
     let at-if1 = c.before.before in
     rw (le-leb _ 15 at-if1.if1.left, lt-leb _ 127 c.if2.taken)
 
 -- The masks are in their ranges; then the countdown too; then the saved byte; then the latches, and with them all that is the host's.
 abbrev host-at : tie.Else2 → Host
-host-at c = (stateAt c.before.before.before.before.args.s.now).host
+host-at c = (state_at c.before.before.before.before.args.s.now).host
 
 masks : (c : tie.Else2) → leb (host-at c).vram.nibbles 15 && leb (host-at c).intmask 127 ≡ true
-unfolding stateAt
+unfolding state_at
 masks c =
     let at-if1 = c.before.before in
     rw (le-leb _ 15 at-if1.if1.left, le-leb _ 127 c.if2.left)
@@ -40,12 +40,12 @@ timer-in-range-requires : tie.Need-timer-in-range-requires
 timer-in-range-requires c κs = search rules
 
 returns-3 : tie.Need-returns-3
-unfolding registersInRange hostInRange
+unfolding registers_in_range host_in_range
 returns-3 c =
     let at-timer = c.before in
     rw (masks at-timer.before, sym at-timer.timer-in-range.ensures ∙ not-true _ c.if3.taken)
 
-countdown : (c : tie.Else3) → let h = host-at c.before.before in leb h.vram.nibbles 15 && leb h.intmask 127 && timerInRange h.timer ≡ true
+countdown : (c : tie.Else3) → let h = host-at c.before.before in leb h.vram.nibbles 15 && leb h.intmask 127 && timer_in_range h.timer ≡ true
 countdown c =
     let at-timer = c.before in
     rw (masks at-timer.before, sym at-timer.timer-in-range.ensures ∙ not-false _ c.if3.left)
@@ -54,25 +54,25 @@ element-copy-out-if4 : tie.Need-element-copy-out-if4
 element-copy-out-if4 c = search rules
 
 returns-4 : tie.Need-returns-4
-unfolding stateAt registersInRange hostInRange
+unfolding state_at registers_in_range host_in_range
 returns-4 c = rw (countdown c.before.before, lt-leb _ 255 c.if4.taken)
 
 saved : (c : tie.Else4) → let h = host-at c.before.before.before.before in
-    leb h.vram.nibbles 15 && leb h.intmask 127 && timerInRange h.timer && leb h.timer.saved 255 ≡ true
-unfolding stateAt
+    leb h.vram.nibbles 15 && leb h.intmask 127 && timer_in_range h.timer && leb h.timer.saved 255 ≡ true
+unfolding state_at
 saved c = rw (countdown c.before.before, le-leb _ 255 c.if4.left)
 
 latches-in-range-requires : tie.Need-latches-in-range-requires
 latches-in-range-requires c κs = search rules
 
 returns-5 : tie.Need-returns-5
-unfolding registersInRange hostInRange
+unfolding registers_in_range host_in_range
 returns-5 c =
     let at-latches = c.before in
     rw (saved at-latches.before, sym at-latches.latches-in-range.ensures ∙ not-true _ c.if5.taken)
 
-host : (c : tie.Else5) → hostInRange (host-at c.before.before.before.before.before.before) ≡ true
-unfolding hostInRange
+host : (c : tie.Else5) → host_in_range (host-at c.before.before.before.before.before.before) ≡ true
+unfolding host_in_range
 host c =
     let at-latches = c.before in
     rw (saved at-latches.before, sym at-latches.latches-in-range.ensures ∙ not-false _ c.if5.left)
@@ -81,7 +81,7 @@ element-copy-out-result : tie.Need-element-copy-out-result
 element-copy-out-result c = search rules
 
 returns-6 : tie.Need-returns-6
-unfolding stateAt registersInRange
+unfolding state_at registers_in_range
 returns-6 c = rw (host c.before)
 
 pub registers-in-range-spec : {M : Type 1} → statement M

@@ -1,6 +1,6 @@
 -- At its interval, stopped short of it, or below it.
-use Rattle.xosera.specs.State.{stateAt}
-use Rattle.xosera.specs.Ranges.{timerInRange}
+use Rattle.xosera.specs.State.{state_at}
+use Rattle.xosera.specs.Ranges.{timer_in_range}
 use Rattle.ranges.proofs.RangeTests.{at-interval, stopped-short, below-interval}
 use borrow.Author.Rules.{rules}
 use Rattle.ranges.proofs.timer_in_range.Statement.{statement}
@@ -13,14 +13,14 @@ element-copy-out-if1-2 : tie.Need-element-copy-out-if1-2
 element-copy-out-if1-2 c = search rules
 
 returns : tie.Need-returns
-unfolding stateAt timerInRange
+unfolding state_at timer_in_range
 returns c = at-interval _ _ c.if1.taken
 
 element-copy-out-if2 : tie.Need-element-copy-out-if2
 element-copy-out-if2 c = search rules
 
 returns-2 : tie.Need-returns-2
-unfolding stateAt timerInRange
+unfolding state_at timer_in_range
 returns-2 c =
     let at-if1 = c.before.before in
     stopped-short _ _ at-if1.if1.left c.if2.taken
@@ -32,7 +32,7 @@ element-copy-out-result-2 : tie.Need-element-copy-out-result-2
 element-copy-out-result-2 c = search rules
 
 returns-3 : tie.Need-returns-3
-unfolding stateAt timerInRange
+unfolding state_at timer_in_range
 returns-3 c =
     let at-if2 = c.before.before in
     let at-if1 = at-if2.before.before in

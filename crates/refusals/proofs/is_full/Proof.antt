@@ -1,8 +1,8 @@
 -- By the address, then by the flag.
 use mathlib.Core.Path.{sym, ◌∙◌}
 use borrow.Author.Tests.{not-true, not-false}
-use Rattle.xosera.specs.State.{stateAt}
-use Rattle.xosera.specs.XrSpace.{isBlitRegister}
+use Rattle.xosera.specs.State.{state_at}
+use Rattle.xosera.specs.XrSpace.{is_blit_register}
 use borrow.Author.Rules.{rules}
 use Rattle.refusals.proofs.is_full.Statement.{statement}
 use Rattle.refusals.proofs.is_full.Tie as tie
@@ -14,7 +14,7 @@ within-requires : tie.Need-within-requires
 within-requires c κs = search rules
 
 returns : tie.Need-returns
-unfolding stateAt isBlitRegister
+unfolding state_at is_blit_register
 returns c =
     let at-within = c.before in
     rw (sym at-within.within.ensures ∙ not-true _ c.if1.true)
@@ -23,7 +23,7 @@ element-copy-out-result : tie.Need-element-copy-out-result
 element-copy-out-result c = search rules
 
 returns-2 : tie.Need-returns-2
-unfolding stateAt isBlitRegister
+unfolding state_at is_blit_register
 returns-2 c =
     let at-if1 = c.before in
     let at-within = at-if1.before in

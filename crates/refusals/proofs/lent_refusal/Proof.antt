@@ -1,6 +1,6 @@
 -- The lengths first, then the state.
 use mathlib.Core.Path.{◌∙◌}
-use Rattle.xosera.specs.State.{stateAt}
+use Rattle.xosera.specs.State.{state_at}
 use Rattle.refusals.proofs.RefusalOrder.{lengths-first, lengths-passed}
 use borrow.Author.Rules.{rules}
 use Rattle.refusals.proofs.lent_refusal.Statement.{statement}
@@ -13,7 +13,7 @@ returns : tie.Need-returns
 returns c =
     let at-lengths-refusal = c.before in
     let start = at-lengths-refusal.before in
-    lengths-first _ _ (stateAt start.args.s.now) at-lengths-refusal.lengths-refusal.ensures c.if1.true
+    lengths-first _ _ (state_at start.args.s.now) at-lengths-refusal.lengths-refusal.ensures c.if1.true
 
 state-refusal-requires : tie.Need-state-refusal-requires
 state-refusal-requires c κs = search rules
@@ -23,7 +23,7 @@ returns-2 c =
     let at-if1 = c.before in
     let at-lengths-refusal = at-if1.before in
     let start = at-lengths-refusal.before in
-    c.state-refusal.ensures ∙ lengths-passed _ _ (stateAt start.args.s.now) at-lengths-refusal.lengths-refusal.ensures at-if1.if1.false
+    c.state-refusal.ensures ∙ lengths-passed _ _ (state_at start.args.s.now) at-lengths-refusal.lengths-refusal.ensures at-if1.if1.false
 
 pub lent-refusal-spec : {M : Type 1} → statement M
 lent-refusal-spec =

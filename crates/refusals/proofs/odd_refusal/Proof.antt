@@ -4,9 +4,9 @@ use mathlib.Core.Bool.{true}
 use mathlib.Core.List.{List, [], ◌∷◌}
 use Prim.Native.Nat.{ℕ}
 use borrow.Author.Tests.{eq-eqb, ne_eqb}
-use Rattle.xosera.specs.Fields.{isReconfigure}
-use Rattle.xosera.specs.Adapter.{adapterAt}
-use Rattle.calls.specs.Refusals.{blitterFull, reconfigures, ◌when◌, first}
+use Rattle.xosera.specs.Fields.{is_reconfigure}
+use Rattle.xosera.specs.Adapter.{adapter_at}
+use Rattle.calls.specs.Refusals.{blitter_full, reconfigures, ◌when◌, first}
 use borrow.Author.Rules.{rules}
 use Rattle.refusals.proofs.odd_refusal.Statement.{statement}
 use Rattle.refusals.proofs.odd_refusal.Tie as tie
@@ -15,21 +15,21 @@ is-full-requires : tie.Need-is-full-requires
 is-full-requires c κs = search rules
 
 returns : tie.Need-returns
-unfolding first blitterFull reconfigures
+unfolding first blitter_full reconfigures
 returns c =
     let at-is-full = c.before in
     let at-if1 = at-is-full.before in
     λ v x. rw (at-if1.if1.true, sym at-is-full.is-full.ensures ∙ c.if2.true)
 
 returns-2 : tie.Need-returns-2
-unfolding first blitterFull reconfigures
+unfolding first blitter_full reconfigures
 returns-2 c =
     let at-is-full = c.before in
     let at-if1 = at-is-full.before in
     λ v x. rw (at-if1.if1.true, sym at-is-full.is-full.ensures ∙ c.if2.false)
 
 returns-3 : tie.Need-returns-3
-unfolding first blitterFull reconfigures
+unfolding first blitter_full reconfigures
 returns-3 c =
     let at-if1 = c.before in
     let start = at-if1.before in
@@ -44,15 +44,15 @@ is-reconfigure-requires c κs = search rules
 -- Register 1: refused by its word alone.
 word-tested : (c : tie.After-is-reconfigure) (v x : List ℕ) →
     let r = c.before.before.before.before.before.args in
-    let a = adapterAt r.s.now v x in
-    first ((5 when blitterFull a r.reg true) ∷ (6 when reconfigures a r.reg true r.byte) ∷ []) ≡ first ((6 when c.is-reconfigure.result) ∷ [])
-unfolding first blitterFull reconfigures
+    let a = adapter_at r.s.now v x in
+    first ((5 when blitter_full a r.reg true) ∷ (6 when reconfigures a r.reg true r.byte) ∷ []) ≡ first ((6 when c.is-reconfigure.result) ∷ [])
+unfolding first blitter_full reconfigures
 word-tested c v x =
     let at-word-written = c.before in
     let at-if3 = at-word-written.before.before in
     let at-if1 = at-if3.before in
     let reg = at-if1.before.args.reg in
-    let word = c.is-reconfigure.ensures ∙ ap isReconfigure at-word-written.word-written.ensures in
+    let word = c.is-reconfigure.ensures ∙ ap is_reconfigure at-word-written.word-written.ensures in
     rw (ne_eqb reg 5 at-if1.if1.false, eq-eqb reg 1 at-if3.if3.false, sym word)
 
 returns-4 : tie.Need-returns-4

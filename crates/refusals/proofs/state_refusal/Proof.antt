@@ -2,10 +2,10 @@
 use mathlib.Core.Path.{◌≡◌, sym, ◌∙◌}
 use mathlib.Core.Bool.{and-false, and-true}
 use borrow.Author.Tests.{not-true, not-false}
-use Rattle.xosera.specs.State.{stateAt}
+use Rattle.xosera.specs.State.{state_at}
 use Rattle.xosera.specs.Ranges.{in_range}
 use Rattle.calls.specs.Refusals.{first}
-use Rattle.ranges.specs.RangeParts.{blitterInRange}
+use Rattle.ranges.specs.RangeParts.{blitter_in_range}
 use Rattle.ranges.proofs.AllParts.{range-parts}
 use borrow.Author.Rules.{rules}
 use Rattle.refusals.proofs.state_refusal.Statement.{statement}
@@ -15,32 +15,32 @@ returns : tie.Need-returns
 unfolding first
 returns c =
     let start = c.before in
-    rw (range-parts (stateAt start.args.s.now), sym start.pre.0 ∙ not-true _ c.if1.taken)
+    rw (range-parts (state_at start.args.s.now), sym start.pre.0 ∙ not-true _ c.if1.taken)
 
 returns-2 : tie.Need-returns-2
 unfolding first
 returns-2 c =
     let at-if1 = c.before in
     let start = at-if1.before in
-    let s = stateAt start.args.s.now in
+    let s = state_at start.args.s.now in
     rw (
       range-parts s,
       sym start.pre.0 ∙ not-false _ at-if1.if1.left,
       sym start.pre.1 ∙ not-true _ c.if2.taken,
-      and-false (blitterInRange s),
+      and-false (blitter_in_range s),
     )
 
 blitter-in-range-requires : tie.Need-blitter-in-range-requires
 blitter-in-range-requires c κs = search rules
 
 -- With registers, beam and copper in their ranges the whole state is where the blitter is.
-whole : (c : tie.After-blitter-in-range) → in_range (stateAt c.before.before.before.args.s.now) ≡ c.blitter-in-range.result
+whole : (c : tie.After-blitter-in-range) → in_range (state_at c.before.before.before.args.s.now) ≡ c.blitter-in-range.result
 whole c =
     let at-if2 = c.before in
     let at-if1 = at-if2.before in
     let start = at-if1.before in
     rw (
-      range-parts (stateAt start.args.s.now),
+      range-parts (state_at start.args.s.now),
       sym start.pre.0 ∙ not-false _ at-if1.if1.left,
       sym start.pre.1 ∙ not-false _ at-if2.if2.left,
       sym c.blitter-in-range.ensures,

@@ -2,9 +2,9 @@
 use mathlib.Core.Path.{sym, ◌∙◌}
 use mathlib.Core.Bool.{◌&&◌, and-false}
 use borrow.Author.Tests.{not-true, not-false}
-use Rattle.xosera.specs.State.{stateAt}
+use Rattle.xosera.specs.State.{state_at}
 use Rattle.calls.specs.Refusals.{first}
-use Rattle.ranges.specs.RangeParts.{registersInRange, blitterInRange}
+use Rattle.ranges.specs.RangeParts.{registers_in_range, blitter_in_range}
 use Rattle.ranges.proofs.AllParts.{range-parts}
 use borrow.Author.Rules.{rules}
 use Rattle.refusals.proofs.whole_refusal.Statement.{statement}
@@ -17,8 +17,8 @@ returns : tie.Need-returns
 unfolding first
 returns c =
     let at-beam = c.before in
-    let s = stateAt at-beam.before.args.s.now in
-    rw (range-parts s, sym at-beam.beam-in-range.ensures ∙ not-true _ c.if1.taken, and-false (registersInRange s && blitterInRange s))
+    let s = state_at at-beam.before.args.s.now in
+    rw (range-parts s, sym at-beam.beam-in-range.ensures ∙ not-true _ c.if1.taken, and-false (registers_in_range s && blitter_in_range s))
 
 registers-in-range-requires : tie.Need-registers-in-range-requires
 registers-in-range-requires c κs = search rules

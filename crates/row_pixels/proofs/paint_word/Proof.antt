@@ -2,7 +2,7 @@
 use Rattle.std.proofs.Common.{ℕ, sym, ◌∙◌, rules}
 use borrow.Author.Tests.{not-true, not-false}
 use Rattle.xosera.proofs.Branches.{cond_yes, cond_no}
-use Rattle.scanline.specs.Scanline.{pixelsInWord}
+use Rattle.scanline.specs.Scanline.{pixels_in_word}
 use Rattle.row_pixels.specs.RowParts.{PaintsPixels}
 use Rattle.row_pixels.proofs.RowLaws.{no-pixel, next-pixel}
 use Rattle.row_pixels.proofs.paint_word.Statement.{statement}
@@ -40,7 +40,7 @@ module _ (c : tie.After-four-bits) where
       two.paint-pixel2.ensures
 
 returns : tie.Need-returns
-unfolding pixelsInWord
+unfolding pixels_in_word
 returns c =
     let n = cond_no {A = ℕ} 4 2 (sym c.before.four-bits.ensures ∙ not-true _ c.if1.true) in
     rw n (first_two c.before)
@@ -55,7 +55,7 @@ same-length-2 : tie.Need-same-length-2
 same-length-2 c = search rules
 
 returns-2 : tie.Need-returns-2
-unfolding pixelsInWord
+unfolding pixels_in_word
 returns-2 c =
     let four = c.before.before in
     let three = four.before.before.before.before in

@@ -1,9 +1,9 @@
 -- At each place of a word.
 use Rattle.std.proofs.Common.{◌≡◌, ℕ, ◌+◌, ◌-◌, ◌*◌, ◌/◌, ◌%◌, ◌^◌, ◌<◌, sym, refl, ap, ◌∙◌, arith, rules}
-use Rattle.xosera.specs.Fields.{colourBase}
+use Rattle.xosera.specs.Fields.{colour_base}
 use Rattle.xosera.proofs.Quotients.{nibble-at}
 use Rattle.xosera.proofs.Tables.{◌and◌, below_each}
-use Rattle.scanline.specs.Scanline.{pixelIndex}
+use Rattle.scanline.specs.Scanline.{pixel_index}
 use Rattle.row_pixels.proofs.pixel_index.Statement.{statement}
 use Rattle.row_pixels.proofs.pixel_index.Tie as tie
 
@@ -35,12 +35,12 @@ add-result : tie.Need-overflow-add-result
 add-result c = search rules
 
 returns : tie.Need-returns
-unfolding pixelIndex
+unfolding pixel_index
 returns c =
     let start = c.before.before.before in
     let four = sym c.before.before.four-bits.ensures ∙ c.before.if1.true in
     rw (four, c.colour-base.ensures)
-    (ap (λ (n : ℕ). colourBase start.args.p.gfx / 16 * 16 + n) (nibble-at 3 start.args.word (start.args.pixel % 4) (omega arith)))
+    (ap (λ (n : ℕ). colour_base start.args.p.gfx / 16 * 16 + n) (nibble-at 3 start.args.word (start.args.pixel % 4) (omega arith)))
 
 mul-result-3 : tie.Need-overflow-mul-result-3
 mul-result-3 c = search rules
@@ -55,7 +55,7 @@ cast-result-2 : tie.Need-overflow-cast-result-2
 cast-result-2 c = search rules
 
 returns-2 : tie.Need-returns-2
-unfolding pixelIndex
+unfolding pixel_index
 returns-2 c =
     let start = c.before.before in
     rw (sym c.before.four-bits.ensures ∙ c.if1.false) (byte-there start.args.word (start.args.pixel % 2) (omega arith))

@@ -6,8 +6,8 @@ use Prim.Native.Nat.{ℕ}
 use native.Mathlib.Omega.{arith}
 use borrow.Author.Rules.{rules}
 use borrow.Author.Tests.{not-true, not-false}
-use Rattle.xosera.specs.Adapter.{Adapter, adapterAt}
-use Rattle.saved_file.specs.SavedFile.{isSaved}
+use Rattle.xosera.specs.Adapter.{Adapter, adapter_at}
+use Rattle.saved_file.specs.SavedFile.{is_saved}
 use Rattle.saving.proofs.Promised.{load-refused, load-done, fit, load-lent, load-unsaved, load-other, load_fits}
 use Rattle.saving.proofs.load.Statement.{statement}
 use Rattle.saving.proofs.load.Tie as tie
@@ -39,7 +39,7 @@ module _ (c : tie.After-lent-refusal) where
   file = began.args.file.now
 
   abbrev here : Adapter
-  here = adapterAt words vram xr
+  here = adapter_at words vram xr
 
 returns : tie.Need-returns
 returns c =
@@ -66,7 +66,7 @@ module _ (c : tie.Else2) where
   abbrev passed : past.lent-refusal.result ≡ 0
   passed = c.before.before.if1.false
 
-  abbrev is : isSaved (file past) ≡ true
+  abbrev is : is_saved (file past) ≡ true
   is = sym c.before.is-saved.ensures ∙ not-false _ c.if2.false
 
 mul-if3 : tie.Need-overflow-mul-if3

@@ -5,7 +5,7 @@ use Prim.Native.Nat.{ℕ}
 use native.Mathlib.Omega.{arith}
 use borrow.Author.Rules.{rules}
 use borrow.Author.Tests.{not-true, not-false}
-use Rattle.xosera.specs.Adapter.{Adapter, adapterAt}
+use Rattle.xosera.specs.Adapter.{Adapter, adapter_at}
 use Rattle.vram.proofs.Lengths.{length-bounds}
 use Rattle.saved_file.proofs.SavedLaws.{saved-length}
 use Rattle.saving.proofs.Promised.{save-refused, save-done, fit, save-lent, save-short, save-off-rest, save-fits}
@@ -39,7 +39,7 @@ module _ (c : tie.After-lent-refusal) where
   room = began.args.room.now
 
   abbrev here : Adapter
-  here = adapterAt words vram xr
+  here = adapter_at words vram xr
 
 returns : tie.Need-returns
 returns c =

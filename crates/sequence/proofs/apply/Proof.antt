@@ -2,7 +2,7 @@
 use mathlib.Core.Path.{◌≡◌, refl}
 use Prim.Native.Nat.{ℕ}
 use Rattle.xosera.proofs.Tables.{◌and◌, below_each}
-use Rattle.sequence.specs.Played.{eventOf}
+use Rattle.sequence.specs.Played.{event_of}
 use Rattle.sequence.proofs.PlayedLists.{else-run}
 use borrow.Author.Rules.{rules}
 use Rattle.sequence.proofs.apply.Statement.{statement}
@@ -42,7 +42,7 @@ same-length-2 : tie.Need-same-length-2
 same-length-2 c = search rules
 
 returns : tie.Need-returns
-unfolding eventOf
+unfolding event_of
 returns c =
     let at-write = c.before.before.before.before in
     let at-match = at-write.before.before.before.before in
@@ -55,7 +55,7 @@ same-length-4 : tie.Need-same-length-4
 same-length-4 c = search rules
 
 returns-2 : tie.Need-returns-2
-unfolding eventOf
+unfolding event_of
 returns-2 c =
     let at-write2 = c.before.before.before.before in
     let at-match = at-write2.before.before.before.before in
@@ -68,7 +68,7 @@ same-length-6 : tie.Need-same-length-6
 same-length-6 c = search rules
 
 returns-3 : tie.Need-returns-3
-unfolding eventOf
+unfolding event_of
 returns-3 c =
     let at-match = c.before.before.before.before in
     rw at-match.match.keys3 c.read.ensures
@@ -80,13 +80,13 @@ same-length-8 : tie.Need-same-length-8
 same-length-8 c = search rules
 
 returns-4 : tie.Need-returns-4
-unfolding eventOf
+unfolding event_of
 returns-4 c =
     let at-match = c.before.before.before.before in
     rw at-match.match.keys4 c.read2.ensures
 
 returns-5 : tie.Need-returns-5
-unfolding eventOf
+unfolding event_of
 returns-5 c =
     let at-match = c.before.before in
     let start = at-match.before.before.before in
@@ -99,14 +99,14 @@ same-length-10 : tie.Need-same-length-10
 same-length-10 c = search rules
 
 returns-6 : tie.Need-returns-6
-unfolding eventOf
+unfolding event_of
 returns-6 c =
     let at-beam = c.before.before in
     let at-match = at-beam.before.before.before.before in
     rw at-match.match.keys6 at-beam.beam.ensures
 
 returns-7 : tie.Need-returns-7
-unfolding eventOf
+unfolding event_of
 returns-7 c =
     let at-match = c.before.before in
     let start = at-match.before.before.before in
@@ -119,7 +119,7 @@ same-length-12 : tie.Need-same-length-12
 same-length-12 c = search rules
 
 returns-8 : tie.Need-returns-8
-unfolding eventOf
+unfolding event_of
 returns-8 c =
     let at-step = c.before.before in
     let at-match = at-step.before.before.before.before in

@@ -4,8 +4,8 @@ use Prim.Native.Nat.{◌-◌}
 use native.Mathlib.Omega.{arith}
 use borrow.Author.Rules.{scaled_Fits}
 use lib.ListN.{length, length-set}
-use Rattle.xosera.specs.Adapter.{adapterAt}
-use Rattle.sequence.specs.Played.{eventsOf}
+use Rattle.xosera.specs.Adapter.{adapter_at}
+use Rattle.sequence.specs.Played.{events_of}
 use Rattle.sequence.proofs.PlayedLists.{events-next, events-none}
 use Rattle.sequence.proofs.Playing.{Playing, playing-start, playing-on, playing-done}
 use Rattle.sequence.proofs.play.Statement.{statement}
@@ -13,7 +13,7 @@ use Rattle.sequence.proofs.play.Tie as tie
 
 abbrev invariant-loop : tie.invariant-loop
 invariant-loop s₀ vram₀ xr₀ kinds args refusals₀ values₀ masks₀ i₀ s vram xr refusals values masks i =
-    Playing (adapterAt s₀ vram₀ xr₀) (eventsOf kinds args) (adapterAt s vram xr) i refusals values masks
+    Playing (adapter_at s₀ vram₀ xr₀) (events_of kinds args) (adapter_at s vram xr) i refusals values masks
     × (length vram ≡ length vram₀) × (length xr ≡ length xr₀) × (length refusals ≡ length refusals₀) × (length values ≡ length values₀)
     × (length masks ≡ length masks₀)
 
@@ -24,7 +24,7 @@ loop-holds : tie.Need-loop-init invariant-loop decreases-loop
 loop-holds c =
     let start = c.before.before.before.before.before.before.before in
     let a = start.args in (
-      playing-start (adapterAt a.s.now a.vram.now a.xr.now) (eventsOf a.kinds.now a.args.now) a.refusals.now a.values.now
+      playing-start (adapter_at a.s.now a.vram.now a.xr.now) (events_of a.kinds.now a.args.now) a.refusals.now a.values.now
           a.masks.now,
       refl,
       refl,

@@ -1,9 +1,9 @@
 -- One store.
 use Rattle.std.proofs.Common.{◌%◌, [], ◌∷◌, refl, rules}
-use Rattle.xosera.specs.State.{word_at, stateAt}
+use Rattle.xosera.specs.State.{word_at, state_at}
 use Rattle.xosera.specs.Memories.{stored}
 use Rattle.xosera.specs.Plan.{changed, perform}
-use Rattle.xosera.specs.HostBytes.{timerSaved, readByte}
+use Rattle.xosera.specs.HostBytes.{timer_saved, read_byte}
 use Rattle.xosera.proofs.WordLaws.{◌takes◌, stored-adapter}
 use Rattle.timer.proofs.save.Statement.{statement}
 use Rattle.timer.proofs.save.Tie as tie
@@ -18,7 +18,7 @@ same_length : tie.Need-same-length
 same_length c = search rules
 
 returns : tie.Need-returns
-unfolding stateAt perform changed stored readByte timerSaved
+unfolding state_at perform changed stored read_byte timer_saved
 returns c =
     let start = c.before in
     let ws = start.args.s.now in

@@ -1,6 +1,6 @@
 -- Two stores.
 use Rattle.std.proofs.Common.{[], ◌∷◌, refl, rules}
-use Rattle.xosera.specs.State.{stateAt}
+use Rattle.xosera.specs.State.{state_at}
 use Rattle.xosera.specs.Memories.{stored}
 use Rattle.xosera.specs.Plan.{changed, perform}
 use Rattle.xosera.proofs.WordLaws.{◌takes◌, stored-adapter}
@@ -17,7 +17,7 @@ same_length : tie.Need-same-length
 same_length c = search rules
 
 returns : tie.Need-returns
-unfolding stateAt perform changed stored
+unfolding state_at perform changed stored
 returns c = stored-adapter c.args.s.now c.requires ((26 takes c.args.w) ∷ (27 takes c.args.w) ∷ []) refl
 
 pub set-countdown-spec : {M : Type 1} → statement M

@@ -1,9 +1,9 @@
 -- A countdown at its end, one that is stopped, and one that goes on.
 use Rattle.std.proofs.Common.{◌-◌, [], ◌∷◌, refl, ◌∙◌, arith, length-set, rules, eq-eqb, ne_eqb}
 use lib.Bits.{bit_or}
-use Rattle.xosera.specs.State.{word_at, stateAt}
+use Rattle.xosera.specs.State.{word_at, state_at}
 use Rattle.xosera.specs.Words.{wrap}
-use Rattle.xosera.specs.Fields.{timerExpired}
+use Rattle.xosera.specs.Fields.{timer_expired}
 use Rattle.xosera.specs.Memories.{stored}
 use Rattle.xosera.specs.Plan.{changed, perform}
 use Rattle.xosera.specs.TimerTick as TimerTick
@@ -40,19 +40,19 @@ same_length : tie.Need-same-length
 same_length c = search rules
 
 returns : tie.Need-returns
-unfolding stateAt perform changed stored TimerTick.tick ticked lowered expires wrap
+unfolding state_at perform changed stored TimerTick.tick ticked lowered expires wrap
 returns c =
     let at-wrapping-add-u16 = c.before in
     let start = at-wrapping-add-u16.before.before.before.before.before.before in
     let ws = start.args.s.now in
-    let stores = (25 takes at-wrapping-add-u16.wrapping-add-u16.result) ∷ (26 takes word_at ws 27) ∷ (31 takes bit_or (word_at ws 31) timerExpired) ∷ [] in
+    let stores = (25 takes at-wrapping-add-u16.wrapping-add-u16.result) ∷ (26 takes word_at ws 27) ∷ (31 takes bit_or (word_at ws 31) timer_expired) ∷ [] in
     λ v x. stored-adapter ws start.requires stores refl v x ∙ rw (at-wrapping-add-u16.wrapping-add-u16.ensures, eq-eqb (word_at ws 26) 1 c.if1.true)
 
 same-length-2 : tie.Need-same-length-2
 same-length-2 c = search rules
 
 returns-2 : tie.Need-returns-2
-unfolding stateAt perform changed stored TimerTick.tick ticked lowered expires wrap
+unfolding state_at perform changed stored TimerTick.tick ticked lowered expires wrap
 returns-2 c =
     let at-if1 = c.before in
     let at-wrapping-add-u16 = at-if1.before in
@@ -71,7 +71,7 @@ same-length-3 : tie.Need-same-length-3
 same-length-3 c = search rules
 
 returns-3 : tie.Need-returns-3
-unfolding stateAt perform changed stored TimerTick.tick ticked lowered expires wrap
+unfolding state_at perform changed stored TimerTick.tick ticked lowered expires wrap
 returns-3 c =
     let at-if1 = c.before in
     let at-wrapping-add-u16 = at-if1.before in

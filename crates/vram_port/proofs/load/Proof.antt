@@ -1,9 +1,9 @@
 -- The address set and the word there loaded.
 use Rattle.std.proofs.Common.{[], ◌∷◌, refl, ◌∙◌, rules}
-use Rattle.xosera.specs.State.{stateAt}
+use Rattle.xosera.specs.State.{state_at}
 use Rattle.xosera.specs.Memories.{stored}
-use Rattle.xosera.specs.Plan.{changed, vramLoaded, perform}
-use Rattle.xosera.specs.HostBytes.{vramLoad}
+use Rattle.xosera.specs.Plan.{changed, vram_loaded, perform}
+use Rattle.xosera.specs.HostBytes.{vram_load}
 use Rattle.xosera.proofs.WordLaws.{◌takes◌, stored-adapter}
 use Rattle.vram_port.proofs.load.Statement.{statement}
 use Rattle.vram_port.proofs.load.Tie as tie
@@ -21,7 +21,7 @@ same_length : tie.Need-same-length
 same_length c = search rules
 
 returns : tie.Need-returns
-unfolding stateAt perform changed stored vramLoad vramLoaded
+unfolding state_at perform changed stored vram_load vram_loaded
 returns c =
     let start = c.before.before.before in
     let stores = (20 takes start.args.a.0) ∷ (23 takes c.read_word.result) ∷ [] in

@@ -1,6 +1,6 @@
 -- The store under the nibble mask and the address moved on.
 use Rattle.std.proofs.Common.{[], ◌∷◌, refl, ◌∙◌, rules}
-use Rattle.xosera.specs.State.{stateAt}
+use Rattle.xosera.specs.State.{state_at}
 use Rattle.xosera.specs.Words.{wrap}
 use Rattle.xosera.specs.Plan.{changed, perform}
 use Rattle.xosera.proofs.WordLaws.{◌takes◌, stored-adapter}
@@ -32,7 +32,7 @@ same-length-2 : tie.Need-same-length-2
 same-length-2 c = search rules
 
 returns : tie.Need-returns
-unfolding stateAt perform changed wrap
+unfolding state_at perform changed wrap
 returns c =
     let at_store = c.before.before.before.before in
     let start = at_store.before.before.before.before.before.before in

@@ -5,8 +5,8 @@ use mathlib.Core.Bool.{true}
 use Prim.Native.Nat.{suc}
 use native.Mathlib.Omega.{arith}
 use borrow.Author.Tests.{not-true, not-false}
-use Rattle.xosera.specs.Memories.{isVramLength, Pixel}
-use Rattle.xosera.specs.Blitter.{engineLeft}
+use Rattle.xosera.specs.Memories.{is_vram_length, Pixel}
+use Rattle.xosera.specs.Blitter.{engine_left}
 use lib.ListN.{length}
 use Rattle.xosera.specs.Ranges.{Running}
 use Rattle.xosera.proofs.EngineLaws.{launched-running, next-left, drawn-length}
@@ -19,7 +19,7 @@ abbrev invariant-loop : tie.invariant-loop
 invariant-loop vram₀ address nibble k at₀ known₀ vram at known = Known (record { address = address; nibble = nibble }) at₀ vram₀ at vram known
 
 abbrev decreases-loop : tie.decreases-loop
-decreases-loop vram₀ address nibble k at₀ known₀ vram at known = engineLeft at
+decreases-loop vram₀ address nibble k at₀ known₀ vram at known = engine_left at
 
 sub-k : tie.Need-overflow-sub-k invariant-loop decreases-loop
 sub-k c = omega (arith, c.before.requires.1)
@@ -37,8 +37,8 @@ last-step-requires : tie.Need-last-step-requires invariant-loop decreases-loop
 last-step-requires c κs = tt
 
 -- At the loop's head VRAM is as long as it was.
-long : (c : tie.At-loop invariant-loop decreases-loop) → isVramLength (length c.loop.vram) ≡ true
-long c = ap isVramLength c.loop.invariant.vram-length ∙ c.before.before.before.requires.0
+long : (c : tie.At-loop invariant-loop decreases-loop) → is_vram_length (length c.loop.vram) ≡ true
+long c = ap is_vram_length c.loop.invariant.vram-length ∙ c.before.before.before.requires.0
 
 note-requires : tie.Need-note-requires invariant-loop decreases-loop
 note-requires c κs = (long c.before.before.before, omega arith)
@@ -64,7 +64,7 @@ loop-less c =
     let on = sym at-if.before.last_step.ensures ∙ not-true _ at-if.if1.true in
     let word = at-advance.before.before.before.note.result.word in
     let one = next-left at-loop.loop.at word at-loop.loop.invariant.goes_on on in
-    omega (arith, c.before.before.pass.ensures.fewer, one ∙ ap (λ e. suc (engineLeft e)) (sym at-advance.advance.ensures))
+    omega (arith, c.before.before.pass.ensures.fewer, one ∙ ap (λ e. suc (engine_left e)) (sym at-advance.advance.ensures))
 
 loop-again : tie.Need-loop-preserved invariant-loop decreases-loop
 loop-again c =

@@ -4,10 +4,10 @@ use mathlib.Core.Bool.{Bool, true, false, not}
 use borrow.Author.Rules.{rules}
 use Rattle.reasons.specs.declared.Why.TheVariants.{HeldBack}
 use Rattle.xosera.specs.Words.{bit}
-use Rattle.xosera.specs.Blitter.{sourced, testMask}
-use Rattle.masks.specs.Masks.{firstHolds, lastHolds, testHolds}
+use Rattle.xosera.specs.Blitter.{sourced, test_mask}
+use Rattle.masks.specs.Masks.{first_holds, last_holds, test_holds}
 use Rattle.masks.proofs.NibbleLaws.{first-mask-bit, last-mask-bit, test-mask-bit}
-use Rattle.reasons.specs.Account.{heldBackBy}
+use Rattle.reasons.specs.Account.{held_back_by}
 use Rattle.why.proofs.held_back.Statement.{statement}
 use Rattle.why.proofs.held_back.Tie as tie
 
@@ -37,7 +37,7 @@ lacks true h = ap not h
 lacks false h = ap not h
 
 returns : tie.Need-returns
-unfolding heldBackBy
+unfolding held_back_by
 returns c =
     let at_bits = c.before in
     let at_source = at_bits.before in
@@ -48,12 +48,12 @@ returns c =
     let start = at-first-mask.before in
     let e = start.args.e in
     let k = start.args.k in
-    let first = lacks (firstHolds e k) (at_first.bit.ensures ∙ ap (bit k) at-first-mask.first-mask.ensures ∙ first-mask-bit e k start.requires) in
-    let last = lacks (lastHolds e k) (at_last.bit2.ensures ∙ ap (bit k) at-last-mask.last-mask.ensures ∙ last-mask-bit e k start.requires) in
+    let first = lacks (first_holds e k) (at_first.bit.ensures ∙ ap (bit k) at-first-mask.first-mask.ensures ∙ first-mask-bit e k start.requires) in
+    let last = lacks (last_holds e k) (at_last.bit2.ensures ∙ ap (bit k) at-last-mask.last-mask.ensures ∙ last-mask-bit e k start.requires) in
     let s = at_source.source.result in
-    let tested = c.has-nibble.ensures (testMask e s) at_bits.test-bits.ensures in
-    let colour = lacks (testHolds e (sourced e start.args.word) k)
-    (tested ∙ ap (λ x. bit k (testMask e x)) at_source.source.ensures ∙ test-mask-bit e k start.requires _) in
+    let tested = c.has-nibble.ensures (test_mask e s) at_bits.test-bits.ensures in
+    let colour = lacks (test_holds e (sourced e start.args.word) k)
+    (tested ∙ ap (λ x. bit k (test_mask e x)) at_source.source.ensures ∙ test-mask-bit e k start.requires _) in
     λ i. HeldBack (first i) (last i) (colour i)
 
 pub held-back-spec : {M : Type 1} → statement M

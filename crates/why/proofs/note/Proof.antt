@@ -6,7 +6,7 @@ use Rattle.xosera.specs.Memories.{place}
 use Rattle.xosera.specs.Blitter.{drawing}
 use Rattle.words.specs.Spread.{spread}
 use Rattle.xosera.proofs.Branches.{cond_yes, cond_no}
-use Rattle.why.specs.Reaches.{afterReach}
+use Rattle.why.specs.Reaches.{after_reach}
 use Rattle.why.proofs.note.Statement.{statement}
 use Rattle.why.proofs.note.Tie as tie
 
@@ -51,7 +51,7 @@ returns-2 c =
     let one = at-draw.draw.ensures in
     record {
       took = one.took;
-      knows = c.after-reach.ensures ∙ ap (λ w. afterReach start.args.e w start.args.k start.args.known) one.took
+      knows = c.after-reach.ensures ∙ ap (λ w. after_reach start.args.e w start.args.k start.args.known) one.took
           ∙ sym (cond_yes _ _ (sym at-goes-to.Goes-to.ensures ∙ not-false _ at-if.if1.false));
       leaves = one.leaves;
     }

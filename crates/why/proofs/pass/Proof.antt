@@ -5,8 +5,8 @@ use Prim.Native.Nat.{suc}
 use native.Mathlib.Omega.{arith}
 use lib.ListN.{length}
 use borrow.Author.Tests.{not-true}
-use Rattle.xosera.specs.Memories.{isVramLength, place}
-use Rattle.xosera.specs.Blitter.{engineLeft}
+use Rattle.xosera.specs.Memories.{is_vram_length, place}
+use Rattle.xosera.specs.Blitter.{engine_left}
 use Rattle.xosera.proofs.EngineLaws.{next-left}
 use Rattle.why.specs.Progress.{Passed}
 use Rattle.why.proofs.Noting.{runs_on, passed_none, passed-more, passed-word}
@@ -17,7 +17,7 @@ abbrev invariant-loop : tie.invariant-loop
 invariant-loop vram₀ address at₀ vram at = Passed address at₀ vram₀ at vram
 
 abbrev decreases-loop : tie.decreases-loop
-decreases-loop vram₀ address at₀ vram at = engineLeft at
+decreases-loop vram₀ address at₀ vram at = engine_left at
 
 loop-holds : tie.Need-loop-init invariant-loop decreases-loop
 loop-holds c = passed_none c.before.requires.1
@@ -26,8 +26,8 @@ last-step-requires : tie.Need-last-step-requires invariant-loop decreases-loop
 last-step-requires c κs = tt
 
 -- At the loop's head VRAM is as long as it was.
-long : (c : tie.At-loop invariant-loop decreases-loop) → isVramLength (length c.loop.vram) ≡ true
-long c = ap isVramLength c.loop.invariant.vram-length ∙ c.before.before.requires.0
+long : (c : tie.At-loop invariant-loop decreases-loop) → is_vram_length (length c.loop.vram) ≡ true
+long c = ap is_vram_length c.loop.invariant.vram-length ∙ c.before.before.requires.0
 
 goes-to-requires : tie.Need-goes-to-requires invariant-loop decreases-loop
 goes-to-requires c κs = long c.before.before
@@ -56,7 +56,7 @@ loop-less c =
     let on = sym at-if.before.last_step.ensures ∙ not-true _ at-if.if1.true in
     let word = at-advance.before.before.before.draw.result.word in
     let one = next-left at-loop.loop.at word at-loop.loop.invariant.goes_on on in
-    omega (arith, c.before.before.pass-inside.ensures.fewer, one ∙ ap (λ e. suc (engineLeft e)) (sym at-advance.advance.ensures))
+    omega (arith, c.before.before.pass-inside.ensures.fewer, one ∙ ap (λ e. suc (engine_left e)) (sym at-advance.advance.ensures))
 
 loop-again : tie.Need-loop-preserved invariant-loop decreases-loop
 unfolding place

@@ -3,8 +3,8 @@ use mathlib.Core.Path.{◌≡◌, sym, ap, ◌∙◌}
 use mathlib.Core.Bool.{true}
 use native.Mathlib.Omega.{arith}
 use lib.ListN.{length}
-use Rattle.xosera.specs.Memories.{isVramLength, place}
-use Rattle.xosera.specs.Blitter.{engineLeft}
+use Rattle.xosera.specs.Memories.{is_vram_length, place}
+use Rattle.xosera.specs.Blitter.{engine_left}
 use Rattle.xosera.proofs.EngineLaws.{inside-not-last, next-left}
 use Rattle.why.specs.Progress.{Passed}
 use Rattle.why.proofs.Noting.{passed_none, passed-more, passed-word}
@@ -15,7 +15,7 @@ abbrev invariant-loop : tie.invariant-loop
 invariant-loop vram₀ address at₀ vram at = Passed address at₀ vram₀ at vram
 
 abbrev decreases-loop : tie.decreases-loop
-decreases-loop vram₀ address at₀ vram at = engineLeft at
+decreases-loop vram₀ address at₀ vram at = engine_left at
 
 loop-holds : tie.Need-loop-init invariant-loop decreases-loop
 loop-holds c = passed_none c.before.requires.1
@@ -24,8 +24,8 @@ last-word-requires : tie.Need-last-word-requires invariant-loop decreases-loop
 last-word-requires c κs = tt
 
 -- At the loop's head VRAM is as long as it was.
-long : (c : tie.At-loop invariant-loop decreases-loop) → isVramLength (length c.loop.vram) ≡ true
-long c = ap isVramLength c.loop.invariant.vram-length ∙ c.before.before.requires.0
+long : (c : tie.At-loop invariant-loop decreases-loop) → is_vram_length (length c.loop.vram) ≡ true
+long c = ap is_vram_length c.loop.invariant.vram-length ∙ c.before.before.requires.0
 
 goes-to-requires : tie.Need-goes-to-requires invariant-loop decreases-loop
 goes-to-requires c κs = long c.before.before.before.before

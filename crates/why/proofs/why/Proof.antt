@@ -4,9 +4,9 @@ use mathlib.Core.List.{List}
 use Prim.Native.Nat.{ℕ}
 use lib.ListN.{length}
 use borrow.Author.Rules.{rules}
-use Rattle.xosera.specs.Memories.{isVramLength, Pixel}
-use Rattle.blits.specs.Blits.{drawnBy}
-use Rattle.reasons.specs.Account.{whyOf}
+use Rattle.xosera.specs.Memories.{is_vram_length, Pixel}
+use Rattle.blits.specs.Blits.{drawn_by}
+use Rattle.reasons.specs.Account.{why_of}
 use Rattle.reasons.proofs.RefusalOrder.{Accepted, accepted-means}
 use Rattle.why.proofs.Promised.{why-refused, why-done}
 use Rattle.why.proofs.why.Statement.{statement}
@@ -40,7 +40,7 @@ account-requires : tie.Need-account-requires
 account-requires c κs =
     let copied = c.before.before.before in
     let ok = accepted copied.before.before in
-    (ap (λ l. isVramLength (length l)) copied.copy.ensures ∙ ok.long, ok.nibble)
+    (ap (λ l. is_vram_length (length l)) copied.copy.ensures ∙ ok.long, ok.nibble)
 
 same_length : tie.Need-same-length
 same_length c = search rules
@@ -54,7 +54,7 @@ returns-2 c =
     let p = pixel start in
     let r = start.args.regs in
     why-done r (given start) start.args.work.now p _ _ (sym none.before.why-refusal.ensures ∙ none.if1.false)
-    (told.account.ensures.0 ∙ ap (λ l. whyOf r l p) copied.copy.ensures) (told.account.ensures.1 ∙ ap (drawnBy r) copied.copy.ensures)
+    (told.account.ensures.0 ∙ ap (λ l. why_of r l p) copied.copy.ensures) (told.account.ensures.1 ∙ ap (drawn_by r) copied.copy.ensures)
 
 pub why-spec : {M : Type 1} → statement M
 why-spec = tie.close (tie.spec why-refusal-requires returns copy-requires account-requires same_length returns-2)

@@ -5,7 +5,7 @@ use native.Mathlib.Omega.{arith}
 use borrow.Author.Rules.{rules}
 use borrow.Author.Tests.{not-true, not-false}
 use Rattle.xosera.specs.Memories.{Pixel}
-use Rattle.reasons.specs.WhyCall.{whyRefusal}
+use Rattle.reasons.specs.WhyCall.{why_refusal}
 use Rattle.reasons.proofs.RefusalOrder.{refusals-hold}
 use Rattle.why.proofs.why_refusal.Statement.{statement}
 use Rattle.why.proofs.why_refusal.Tie as tie
@@ -25,8 +25,8 @@ returns-2 c =
     sym (refusals-hold.lengths_differ a.before a.work _ (λ e. c.if2.true (sym e)))
 
 -- Two memories as long: what holds of one length holds of both.
-both_long : {m n r : ℕ} (p : Pixel) → m ≡ n → whyRefusal n n p ≡ r → r ≡ whyRefusal n m p
-both_long {m} {n} {r} p e h = sym (subst (λ (k : ℕ). whyRefusal n k p ≡ r) (sym e) h)
+both_long : {m n r : ℕ} (p : Pixel) → m ≡ n → why_refusal n n p ≡ r → r ≡ why_refusal n m p
+both_long {m} {n} {r} p e h = sym (subst (λ (k : ℕ). why_refusal n k p ≡ r) (sym e) h)
 
 returns-3 : tie.Need-returns-3
 returns-3 c =

@@ -3,7 +3,7 @@ use Prim.Native.Nat.{◌*◌}
 use borrow.Author.Rules.{rules}
 use native.Mathlib.Omega.{arith}
 use lib.Bits.{bit_xor, and_le_r}
-use Rattle.words.proofs.Colours.{colourTops, nibble-room, nibble-bits, byte-room, byte-bits}
+use Rattle.words.proofs.Colours.{colour_tops, nibble-room, nibble-bits, byte-room, byte-bits}
 use Rattle.words.proofs.colour_bits.Statement.{statement}
 use Rattle.words.proofs.colour_bits.Tie as tie
 
@@ -16,7 +16,7 @@ add-tops c = omega (arith, and_le_r (bit_xor c.args.s (c.args.t * 0x0101)) 0x777
 mul-result : tie.Need-overflow-mul-result
 mul-result c =
     let a = c.before.args in
-    omega (arith, byte-room (colourTops a.t a.s))
+    omega (arith, byte-room (colour_tops a.t a.s))
 
 returns : tie.Need-returns
 returns c =

@@ -3,7 +3,7 @@ use mathlib.Core.Path.{sym, ◌∙◌}
 use Prim.Native.Nat.{◌-◌}
 use native.Mathlib.Omega.{arith}
 use borrow.Rule.Slice.PartMut.{mid_len}
-use Rattle.xosera.specs.XrSpace.{xrRead}
+use Rattle.xosera.specs.XrSpace.{xr_read}
 use Rattle.xr_memory.proofs.Parts.{tested, inside, no_register, part-word}
 use borrow.Author.Rules.{rules}
 use Rattle.xr_memory.proofs.load.Statement.{statement}
@@ -27,7 +27,7 @@ shared-slice-read-result c =
     omega (arith, s.requires.0, inside 0x4000 5120 s.args.a.0 c.before.before.within.ensures c.before.if1.true)
 
 returns : tie.Need-returns
-unfolding xrRead
+unfolding xr_read
 returns c = λ v b. rw (tested c.before.before.within.ensures c.before.if1.true)
 
 within-requires-2 : tie.Need-within-requires-2
@@ -55,7 +55,7 @@ get-word-requires c κs =
     omega (arith, mid_len 5120 5632 s.args.xr.now (omega (arith, s.requires.0)), here)
 
 returns-2 : tie.Need-returns-2
-unfolding xrRead
+unfolding xr_read
 returns-2 c =
     let two = c.before.before.before in
     let s = two.before.before.before.before in
@@ -85,7 +85,7 @@ shared-slice-read-result-2 c =
     omega (arith, s.requires.0, inside 0xC000 1024 s.args.a.0 c.before.before.within3.ensures c.before.if3.true)
 
 returns-3 : tie.Need-returns-3
-unfolding xrRead
+unfolding xr_read
 returns-3 c =
     let three = c.before.before in
     let two = three.before.before in
@@ -96,7 +96,7 @@ returns-3 c =
     )
 
 returns-4 : tie.Need-returns-4
-unfolding xrRead
+unfolding xr_read
 returns-4 c =
     let three = c.before in
     let two = three.before.before in

@@ -2,7 +2,7 @@
 use Prim.Native.Nat.{◌-◌}
 use native.Mathlib.Omega.{arith}
 use borrow.Rule.Slice.PartMut.{set_mid_at, mid_len}
-use Rattle.xosera.specs.XrSpace.{xrMemoryWrite}
+use Rattle.xosera.specs.XrSpace.{xr_memory_write}
 use Rattle.xr_memory.proofs.Parts.{tested, inside}
 use borrow.Author.Rules.{rules}
 use Rattle.xr_memory.proofs.store.Statement.{statement}
@@ -27,7 +27,7 @@ same_length : tie.Need-same-length
 same_length c = search rules
 
 returns : tie.Need-returns
-unfolding xrMemoryWrite
+unfolding xr_memory_write
 returns c = rw (tested c.before.within.ensures c.if1.true)
 
 within-requires-2 : tie.Need-within-requires-2
@@ -58,7 +58,7 @@ same-length-2 : tie.Need-same-length-2
 same-length-2 c = search rules
 
 returns-2 : tie.Need-returns-2
-unfolding xrMemoryWrite
+unfolding xr_memory_write
 returns-2 c =
     let two = c.before.before.before.before.before in
     let s = two.before.before.before.before in
@@ -96,7 +96,7 @@ same-length-3 : tie.Need-same-length-3
 same-length-3 c = search rules
 
 returns-3 : tie.Need-returns-3
-unfolding xrMemoryWrite
+unfolding xr_memory_write
 returns-3 c =
     let three = c.before in
     let two = three.before.before in
@@ -107,7 +107,7 @@ returns-3 c =
     )
 
 returns-4 : tie.Need-returns-4
-unfolding xrMemoryWrite
+unfolding xr_memory_write
 returns-4 c =
     let three = c.before in
     let two = three.before.before in

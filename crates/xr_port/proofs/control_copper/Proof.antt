@@ -1,6 +1,6 @@
 -- Bit 15 set leaves the copper; clear stops it.
 use Rattle.std.proofs.Common.{[], ◌∷◌, sym, refl, ◌∙◌, rules}
-use Rattle.xosera.specs.State.{stateAt}
+use Rattle.xosera.specs.State.{state_at}
 use Rattle.xosera.proofs.WordLaws.{◌takes◌, stored-state}
 use Rattle.xr_port.proofs.control_copper.Statement.{statement}
 use Rattle.xr_port.proofs.control_copper.Tie as tie
@@ -21,7 +21,7 @@ same_length : tie.Need-same-length
 same_length c = search rules
 
 returns-2 : tie.Need-returns-2
-unfolding stateAt
+unfolding state_at
 returns-2 c =
     let at-enabled = c.before in
     let start = at-enabled.before.before in

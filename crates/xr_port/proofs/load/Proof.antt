@@ -1,9 +1,9 @@
 -- The address set and the word there loaded.
 use Rattle.std.proofs.Common.{[], ◌∷◌, refl, ◌∙◌, rules}
-use Rattle.xosera.specs.State.{stateAt}
+use Rattle.xosera.specs.State.{state_at}
 use Rattle.xosera.specs.Memories.{stored}
 use Rattle.xosera.specs.Plan.{changed, perform}
-use Rattle.xosera.specs.HostBytes.{xrLoaded}
+use Rattle.xosera.specs.HostBytes.{xr_loaded}
 use Rattle.xosera.proofs.WordLaws.{◌takes◌, stored-adapter}
 use Rattle.xr_port.proofs.load.Statement.{statement}
 use Rattle.xr_port.proofs.load.Tie as tie
@@ -21,7 +21,7 @@ same_length : tie.Need-same-length
 same_length c = search rules
 
 returns : tie.Need-returns
-unfolding stateAt perform changed stored xrLoaded
+unfolding state_at perform changed stored xr_loaded
 returns c =
     let start = c.before.before.before.before in
     let stores = (16 takes start.args.a.0) ∷ (18 takes c.xr-read.result) ∷ [] in

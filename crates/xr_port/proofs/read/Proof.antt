@@ -1,5 +1,5 @@
 -- The address moved on by 1, and the word there loaded.
-use Rattle.xosera.specs.State.{stateAt}
+use Rattle.xosera.specs.State.{state_at}
 use Rattle.xosera.specs.Words.{wrap}
 use Rattle.std.proofs.Common.{rules}
 use Rattle.xr_port.proofs.read.Statement.{statement}
@@ -18,7 +18,7 @@ same_length : tie.Need-same-length
 same_length c = search rules
 
 returns : tie.Need-returns
-unfolding stateAt wrap
+unfolding state_at wrap
 returns c =
     let at_load = c.before.before in
     let at-wrapping-add-u16 = at_load.before.before in

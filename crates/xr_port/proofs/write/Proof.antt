@@ -1,10 +1,10 @@
 -- The address moved on, then the store at the address as it was.
 use Rattle.std.proofs.Common.{[], ◌∷◌, refl, ap, ◌∙◌, length-set, rules}
-use Rattle.xosera.specs.State.{word_at, stateAt}
+use Rattle.xosera.specs.State.{word_at, state_at}
 use Rattle.xosera.specs.Words.{wrap}
 use Rattle.xosera.specs.Adapter.{Adapter}
 use Rattle.xosera.specs.Plan.{perform}
-use Rattle.xosera.specs.XrSpace.{xrWrite}
+use Rattle.xosera.specs.XrSpace.{xr_write}
 use Rattle.xosera.proofs.WordLaws.{◌takes◌, stored-adapter}
 use Rattle.xr_port.proofs.write.Statement.{statement}
 use Rattle.xr_port.proofs.write.Tie as tie
@@ -30,7 +30,7 @@ same-length-2 : tie.Need-same-length-2
 same-length-2 c = search rules
 
 returns : tie.Need-returns
-unfolding stateAt perform wrap
+unfolding state_at perform wrap
 returns c =
     let at-write-xr = c.before.before.before.before in
     let at-wrapping-add-u16 = at-write-xr.before.before.before in
@@ -39,7 +39,7 @@ returns c =
     let at = word_at ws 17 in
     let w = start.args.w in
     let moved = stored-adapter ws start.requires.0 ((17 takes at-wrapping-add-u16.wrapping-add-u16.result) ∷ []) refl in
-    λ v. at-write-xr.write-xr.ensures v ∙ ap (λ (a : Adapter). perform (xrWrite a.side at w) a) (moved v start.args.xr.now)
+    λ v. at-write-xr.write-xr.ensures v ∙ ap (λ (a : Adapter). perform (xr_write a.side at w) a) (moved v start.args.xr.now)
     ∙ rw at-wrapping-add-u16.wrapping-add-u16.ensures
 
 pub write_spec : {M : Type 1} → statement M

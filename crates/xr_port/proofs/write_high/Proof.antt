@@ -1,6 +1,6 @@
 -- 0x49 and the others.
 use Rattle.std.proofs.Common.{arith, rules}
-use Rattle.xosera.specs.State.{stateAt}
+use Rattle.xosera.specs.State.{state_at}
 use Rattle.xr_port.proofs.XrWrites.{starting-write, register-write}
 use Rattle.xr_port.proofs.write_high.Statement.{statement}
 use Rattle.xr_port.proofs.write_high.Tie as tie
@@ -21,7 +21,7 @@ returns c =
     let at-store-register = at-if1.before.before.before in
     let entry = at-store-register.before.before.before in
     let ws = entry.args.s.now in
-    λ v x. starting-write (stateAt ws) v x entry.args.at entry.args.w at-if1.if1.true (at-start.start.ensures v x)
+    λ v x. starting-write (state_at ws) v x entry.args.at entry.args.w at-if1.if1.true (at-start.start.ensures v x)
     at-store-register.store-register.ensures
 
 same-length-2 : tie.Need-same-length-2
@@ -33,7 +33,7 @@ returns-2 c =
     let entry = at-store-register.before.before.before in
     let ws = entry.args.s.now in
     let high = entry.requires.1.1 in
-    λ v x. register-write (stateAt ws) v x entry.args.at entry.args.w entry.requires.1.0 (λ e. absurd (omega (arith, e, high))) c.if1.false
+    λ v x. register-write (state_at ws) v x entry.args.at entry.args.w entry.requires.1.0 (λ e. absurd (omega (arith, e, high))) c.if1.false
     (λ e. absurd (omega (arith, e, high))) at-store-register.store-register.ensures
 
 pub write-high-spec : {M : Type 1} → statement M

@@ -1,8 +1,8 @@
 -- From 0x10 on, 0x03, 0x01 and the others.
 use Rattle.std.proofs.Common.{[], ◌∷◌, refl, ◌∙◌, arith, rules}
 use lib.Bits.{bit_or}
-use Rattle.xosera.specs.State.{word_at, stateAt}
-use Rattle.xosera.specs.Fields.{frameEnded}
+use Rattle.xosera.specs.State.{word_at, state_at}
+use Rattle.xosera.specs.Fields.{frame_ended}
 use Rattle.xosera.proofs.WordLaws.{◌takes◌, stored-adapter}
 use Rattle.xr_port.proofs.XrWrites.{scanline-write, control-write, register-write}
 use Rattle.xr_port.proofs.write_register.Statement.{statement}
@@ -27,13 +27,13 @@ same-length-2 : tie.Need-same-length-2
 same-length-2 c = search rules
 
 returns-2 : tie.Need-returns-2
-unfolding stateAt
+unfolding state_at
 returns-2 c =
     let at-if2 = c.before in
     let entry = at-if2.before.before.before in
     let ws = entry.args.s.now in
-    λ v x. stored-adapter ws entry.requires.0 ((31 takes bit_or (word_at ws 31) frameEnded) ∷ []) refl v x
-    ∙ scanline-write (stateAt ws) v x entry.args.at entry.args.w at-if2.if2.true
+    λ v x. stored-adapter ws entry.requires.0 ((31 takes bit_or (word_at ws 31) frame_ended) ∷ []) refl v x
+    ∙ scanline-write (state_at ws) v x entry.args.at entry.args.w at-if2.if2.true
 
 store-register-requires : tie.Need-store-register-requires
 store-register-requires c κs = search rules
@@ -51,7 +51,7 @@ returns-3 c =
     let at-store-register = at-if3.before.before.before in
     let entry = at-store-register.before.before.before.before.before in
     let ws = entry.args.s.now in
-    λ v x. control-write (stateAt ws) v x entry.args.at entry.args.w at-if3.if3.true at-store-register.store-register.ensures
+    λ v x. control-write (state_at ws) v x entry.args.at entry.args.w at-if3.if3.true at-store-register.store-register.ensures
     at-control.control-copper.ensures
 
 same-length-4 : tie.Need-same-length-4
@@ -65,7 +65,7 @@ returns-4 c =
     let entry = at-if1.before.before in
     let ws = entry.args.s.now in
     let low = at-if1.if1.false in
-    λ v x. register-write (stateAt ws) v x entry.args.at entry.args.w entry.requires.1 at-if2.if2.false (λ e. absurd (omega (arith, e, low)))
+    λ v x. register-write (state_at ws) v x entry.args.at entry.args.w entry.requires.1 at-if2.if2.false (λ e. absurd (omega (arith, e, low)))
     c.if3.false at-store-register.store-register.ensures
 
 pub write-register-spec : {M : Type 1} → statement M

@@ -1,5 +1,5 @@
 -- Memory from 0x4000 on, a register below.
-use Rattle.xosera.specs.State.{stateAt}
+use Rattle.xosera.specs.State.{state_at}
 use Rattle.xr_port.proofs.XrWrites.{memory-write}
 use Rattle.std.proofs.Common.{rules}
 use Rattle.xr_port.proofs.write_xr.Statement.{statement}
@@ -17,7 +17,7 @@ returns c =
     let at-if1 = at_store.before.before in
     let start = at-if1.before.before.before in
     let high = at-if1.if1.true in
-    λ v. rw at_store.store.ensures (memory-write (stateAt start.args.s.now) v start.args.xr.now start.args.a.0 start.args.w high)
+    λ v. rw at_store.store.ensures (memory-write (state_at start.args.s.now) v start.args.xr.now start.args.a.0 start.args.w high)
 
 write-register-requires : tie.Need-write-register-requires
 write-register-requires c κs = search rules

@@ -3,11 +3,11 @@ use mathlib.Core.Path.{◌≡◌, sym}
 use mathlib.Core.Bool.{false}
 use native.Mathlib.Omega.{arith}
 use lib.ListN.{get_or, get_or-eq_default}
-use Rattle.xosera.specs.State.{stateWords}
+use Rattle.xosera.specs.State.{state_words}
 use Rattle.xosera.specs.XrSpace.{within}
 use Rattle.xosera.proofs.Tables.{none_below}
 use Rattle.xr_memory.proofs.Parts.{tested, inside}
-use Rattle.xr_registers.specs.Places.{lowPlaces, registerPlace}
+use Rattle.xr_registers.specs.Places.{low_places, register_place}
 use borrow.Author.Rules.{rules}
 use Rattle.xr_registers.proofs.register_place.Statement.{statement}
 use Rattle.xr_registers.proofs.register_place.Tie as tie
@@ -19,14 +19,14 @@ past_first c = tested c.before.within.ensures c.if1.false
 past-second : (c : tie.Else2) → within 0x18 7 c.before.before.before.before.args.at ≡ false
 past-second c = tested c.before.within2.ensures c.if2.false
 
-past-ranges : (c : tie.Else3) → let at = c.before.before.before.before.before.before.args.at in registerPlace at ≡ get_or lowPlaces at stateWords
-unfolding registerPlace
+past-ranges : (c : tie.Else3) → let at = c.before.before.before.before.before.before.args.at in register_place at ≡ get_or low_places at state_words
+unfolding register_place
 past-ranges c =
     let second = c.before.before in
     rw (past_first second.before.before, past-second second, tested c.before.within3.ensures c.if3.false)
 
 pub register-place-spec : {M : Type 1} → statement M
-unfolding registerPlace
+unfolding register_place
 register-place-spec =
     tie.close
     (tie.spec
@@ -46,4 +46,4 @@ register-place-spec =
     (λ c. rw (past-ranges c.before, c.match.keys4))
     (λ c. rw (past-ranges c.before, c.match.keys5))
     (λ c. rw (past-ranges c.before, c.match.keys6))
-    (λ c. rw (past-ranges c.before) (sym (get_or-eq_default lowPlaces stateWords (none_below _ _ c.match.rest)))))
+    (λ c. rw (past-ranges c.before) (sym (get_or-eq_default low_places state_words (none_below _ _ c.match.rest)))))

@@ -3,11 +3,11 @@ use mathlib.Core.Path.{◌≡◌, sym, ◌∙◌}
 use mathlib.Core.Bool.{cond}
 use borrow.Author.Tests.{lt-ltb, le-ltb}
 use lib.Dec.{ltb}
-use Rattle.xosera.specs.State.{stateWords, word_at, stateAt}
-use Rattle.xosera.specs.XrSpace.{within, playfieldRead, registerRead}
+use Rattle.xosera.specs.State.{state_words, word_at, state_at}
+use Rattle.xosera.specs.XrSpace.{within, playfield_read, register_read}
 use Rattle.xosera.proofs.Branches.{cond_yes, cond_no}
 use Rattle.xr_memory.proofs.Parts.{no_register}
-use Rattle.xr_registers.specs.Places.{registerPlace}
+use Rattle.xr_registers.specs.Places.{register_place}
 use Rattle.xr_registers.proofs.Registers.{read_at}
 use borrow.Author.Rules.{rules}
 use Rattle.xr_registers.proofs.register_read.Statement.{statement}
@@ -17,23 +17,23 @@ returns : tie.Need-returns
 returns c = sym (no_register _ _ _ c.if1.true)
 
 returns-2 : tie.Need-returns-2
-unfolding registerRead playfieldRead within
+unfolding register_read playfield_read within
 returns-2 c = rw c.if2.true
 
 returns-3 : tie.Need-returns-3
-unfolding registerRead playfieldRead within
+unfolding register_read playfield_read within
 returns-3 c = rw c.if3.true
 
 returns-4 : tie.Need-returns-4
-unfolding stateAt registerRead within
+unfolding state_at register_read within
 returns-4 c = rw c.before.if4.true
 
 -- Past the tests a register reads as its word, if it has one.
 read : (c : tie.After-register-place) →
     let s = c.before.before.before.before.before.before.args in
-    cond (ltb (registerPlace s.at) stateWords) (word_at s.s.now (registerPlace s.at)) 0
-    ≡ registerRead (stateAt s.s.now).video (stateAt s.s.now).beam s.at
-unfolding stateAt
+    cond (ltb (register_place s.at) state_words) (word_at s.s.now (register_place s.at)) 0
+    ≡ register_read (state_at s.s.now).video (state_at s.s.now).beam s.at
+unfolding state_at
 read c =
     let tests = c.before in
     let s = tests.before.before.before.before.before.args in

@@ -1,6 +1,6 @@
 -- Memory from 0x4000 on, a register below.
 use native.Mathlib.Omega.{arith}
-use Rattle.xosera.specs.XrSpace.{xrRead}
+use Rattle.xosera.specs.XrSpace.{xr_read}
 use Rattle.xr_memory.proofs.Parts.{below-range}
 use borrow.Author.Rules.{rules}
 use Rattle.xr_registers.proofs.xr_read.Statement.{statement}
@@ -16,7 +16,7 @@ register-read-requires : tie.Need-register-read-requires
 register-read-requires c κs = search rules
 
 returns-2 : tie.Need-returns-2
-unfolding xrRead
+unfolding xr_read
 returns-2 c =
     let at = c.before.before.before.before.args.a.0 in
     let low = c.before.if1.false in
