@@ -1,4 +1,6 @@
 // Words of 16 bits, their bytes and nibbles.
+#![tactic(auto)]
+
 ghost use Rattle.std.specs.Prelude.{◌≡◌, ℕ, ◌/◌, ◌%◌, ◌<◌};
 ghost use Rattle.xosera.specs.Words.{bit, merged, shifted, combined, colour_mask};
 ghost use Rattle.xosera.specs.Fields.{shift_count};

@@ -60,7 +60,7 @@ hold-all : (ws : List ℕ) (word : ℕ → ℕ) (ps : List Stored) → Holds ws 
 hold-all ws word [] h l = h
 hold-all ws word (p ∷ more) h l =
     let k = simp and-eq-true_iff at l in
-    hold-all _ _ more (stored_at h p.place p.value k.0) k.1
+    hold-all (set ws p.place p.value) (put p.place p.value word) more (stored_at h p.place p.value k.0) k.1
 
 module _ (ws : List ℕ) (size : length ws ≡ state_words) (ps : List Stored) (placed : all_placed ps ≡ true) where
   -- The state that the words stand for after stores to them.

@@ -1,0 +1,8 @@
+-- At each of the sixteen masks the four bits come back.
+use native.Mathlib.Omega.{arith}
+use lib.Bits.{and_le_r}
+use Rattle.words.proofs.Nibbles.{gather-spread}
+use Rattle.words.proofs.gathered.Goals as goal
+
+pub returns : goal.returns
+returns c m e = rw e (gather-spread m)
