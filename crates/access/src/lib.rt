@@ -1,5 +1,7 @@
 // Host accesses and the interrupt line on the words of the state and the lent memories. The caller has tested
 // lengths, ranges and refusals.
+#![tactic(auto)]
+
 ghost use Rattle.std.specs.Prelude.{◌≡◌, true, ◌<◌, ◌≤◌, length, get_or};
 ghost use Rattle.xosera.specs.State.{state_words, state_at};
 ghost use Rattle.xosera.specs.Memories.{is_vram_length};

@@ -1,5 +1,7 @@
 // The host's calls on an adapter: reset, a byte written or read, and the line question. Each is lent the words of the state and the
 // memories, works in place or gives the one refusal that applies and changes nothing.
+#![tactic(auto)]
+
 ghost use Rattle.std.specs.Prelude.{◌≡◌, List, ℕ};
 ghost use Rattle.xosera.specs.State.{state_at};
 ghost use Rattle.xosera.specs.Adapter.{adapter_at};

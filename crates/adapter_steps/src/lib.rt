@@ -1,5 +1,7 @@
 // The steps of an adapter: blit steps and runs of them, timer ticks, beam steps. Each is lent the words of the state and the
 // memories, works in place or gives the one refusal that applies and changes nothing.
+#![tactic(auto)]
+
 ghost use Rattle.std.specs.Prelude.{List, ℕ};
 ghost use Rattle.xosera.specs.Adapter.{adapter_at};
 ghost use Rattle.xosera.specs.Events.{tick, beam, call, step, run, Untouched, of_blit, of_state};

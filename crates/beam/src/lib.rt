@@ -1,4 +1,6 @@
 // The video beam on the words of the state: one pixel on, and the positions that copper instructions ask for.
+#![tactic(auto)]
+
 ghost use Rattle.std.specs.Prelude.{◌≡◌, true, List, ℕ, ◌+◌, leb, length};
 ghost use Rattle.xosera.specs.State.{state_words, state_at};
 ghost use Rattle.xosera.specs.Fields.{wait_line, wait_pixel};

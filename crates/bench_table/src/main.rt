@@ -1,5 +1,7 @@
 // The bench table of document 01, and the row that document 02, request 4 adds, run row by row through the public calls:
 // each row's case, what it should give, what it gave, and whether they are the same.
+#![tactic(auto)]
+
 mod bench;
 mod registers;
 mod report;

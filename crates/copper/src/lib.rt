@@ -1,4 +1,6 @@
 // The copper, and the beam step that it works in.
+#![tactic(auto)]
+
 ghost use Rattle.std.specs.Prelude.{◌≡◌, ℕ, ◌<◌, ◌≤◌, Bool, true, ◌&&◌, List, length, slice_index_or};
 ghost use Rattle.xosera.specs.State.{is_set, state_words, state_at};
 ghost use Rattle.xosera.specs.Fields.{opcode};

@@ -1,4 +1,6 @@
 // The blitter's engine: one word a step. It knows nothing of the host.
+#![tactic(auto)]
+
 ghost use Rattle.std.specs.Prelude.{◌≡◌, true, false, length, if◌then◌else◌};
 ghost use Rattle.xosera.specs.Words.{wrap};
 ghost use Rattle.xosera.specs.Memories.{is_vram_length};

@@ -1,4 +1,6 @@
 // Runs of words inside one blit.
+#![tactic(auto)]
+
 ghost use Rattle.std.specs.Prelude.{◌≡◌, true, ◌≤◌, length};
 ghost use Rattle.xosera.specs.Memories.{is_vram_length};
 ghost use Rattle.xosera.specs.Blitter.{engine_left};

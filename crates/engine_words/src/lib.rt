@@ -1,4 +1,6 @@
 // The engine and the blitter's registers, between the words of the state and the structs that the engine's functions take.
+#![tactic(auto)]
+
 ghost use Rattle.std.specs.Prelude.{◌≡◌, ◌+◌, ◌≤◌, length};
 ghost use Rattle.xosera.specs.State.{state_words, regs_from, word_at, state_at};
 ghost use Rattle.engine_words.specs.Held.{with_engine, moving};

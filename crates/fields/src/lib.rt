@@ -1,4 +1,6 @@
 // The bits and fields of registers' words, each read by one function that is named like its definition.
+#![tactic(auto)]
+
 ghost use Rattle.std.specs.Prelude.{◌≡◌};
 ghost use Rattle.xosera.specs.Fields.{int_mask, int_status, wr_mask, is_reconfigure, copper_enabled};
 ghost use Rattle.xosera.specs.Fields.{opcode, wait_line, jump_word, register_number, tile_word, colour_word, program_word};

@@ -1,5 +1,7 @@
 // A saved adapter's bytes: words, the contents and their test. Each function works on a part of the file that is as long as
 // what stands there.
+#![tactic(auto)]
+
 ghost use Rattle.std.specs.Prelude.{◌≡◌, [], ◌∷◌, ◌+◌, ◌*◌, ◌/◌, ◌%◌, ◌<◌, length, get_or, set};
 ghost use Rattle.saved_file.specs.SavedFile.{bytes_of, words_of, entry, contents, same_bytes};
 

@@ -1,4 +1,6 @@
 // The sections of a saved adapter: written to a room, tested, and taken over from a file.
+#![tactic(auto)]
+
 ghost use Rattle.std.specs.Prelude.{◌≡◌, ◌++◌, ◌+◌, ◌*◌, ◌≤◌, length, drop};
 ghost use Rattle.xosera.specs.State.{state_words, state_at};
 ghost use Rattle.xosera.specs.Adapter.{adapter_at};

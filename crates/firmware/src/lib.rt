@@ -1,5 +1,7 @@
 // The calls for C: the public calls under the prefix xosera_, the words of the state behind a pointer and each memory as
 // pointer and length.
+#![tactic(auto)]
+
 ghost use Rattle.std.specs.Prelude.{◌≡◌, List, ℕ};
 ghost use Rattle.xosera.specs.State.{state_at};
 ghost use Rattle.xosera.specs.Adapter.{adapter_at};

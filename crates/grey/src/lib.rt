@@ -1,4 +1,6 @@
 // Grey levels: a colour, or each of some lent words, taken through the table.
+#![tactic(auto)]
+
 mod levels;
 
 ghost use Rattle.std.specs.Prelude.{◌≡◌, map};

@@ -1,4 +1,6 @@
 // Byte writes of the main registers: the latches, the word of a latch and a byte, and the interrupt mask.
+#![tactic(auto)]
+
 ghost use Rattle.std.specs.Prelude.{◌≡◌, false, List, ℕ, ◌<◌, ◌≤◌, length, get_or};
 ghost use Rattle.xosera.specs.State.{state_words, state_at};
 ghost use Rattle.xosera.specs.Adapter.{Side};

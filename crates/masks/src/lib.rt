@@ -1,1 +1,2 @@
 // Which nibbles a call wrote: claims about the answers, with no code of its own.
+#![tactic(auto)]

@@ -1,4 +1,6 @@
 // Paints a scanline of playfield A: the border on both sides of the window, and inside it the pixels of a row.
+#![tactic(auto)]
+
 ghost use Rattle.std.specs.Prelude.{◌≡◌, ℕ, ◌<◌, ◌≤◌, true, false, length, bit_xor, slice_index};
 ghost use Rattle.xosera.specs.State.{state_at};
 ghost use Rattle.xosera.specs.Fields.{colour_base, is_blank};

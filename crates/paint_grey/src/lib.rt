@@ -1,4 +1,6 @@
 // Paints a scanline of playfield A in grey levels.
+#![tactic(auto)]
+
 ghost use Rattle.xosera.specs.Adapter.{adapter_at};
 ghost use Rattle.paint_grey.specs.GreyLine.{PaintsGrey};
 

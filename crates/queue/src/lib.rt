@@ -1,4 +1,6 @@
 // The running blit and the queued one on the words of the state: a start, a step, a blit's end.
+#![tactic(auto)]
+
 ghost use Rattle.std.specs.Prelude.{◌≡◌, true, List, ℕ, min, length};
 ghost use Rattle.xosera.specs.State.{is_set, state_words, state_at};
 ghost use Rattle.xosera.specs.Memories.{is_vram_length};

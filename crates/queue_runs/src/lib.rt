@@ -1,4 +1,6 @@
 // Runs of blit steps on the words of the state, through the running blit and the queued one.
+#![tactic(auto)]
+
 ghost use Rattle.std.specs.Prelude.{◌≡◌, true, List, ℕ, min, length};
 ghost use Rattle.xosera.specs.State.{state_words, state_at};
 ghost use Rattle.xosera.specs.Memories.{is_vram_length};

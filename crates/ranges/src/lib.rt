@@ -1,6 +1,8 @@
 // The ranges of the state, in three tests: the registers, the blitter, beam and copper. Every call but reset makes all three. Each is
 // short enough for the compiler to put it into every call, which all in one function are not. Sixteen latches and an idle engine are
 // tested four words at once; the others word by word, because a read of four words waits for a store to any of them.
+#![tactic(auto)]
+
 ghost use Rattle.std.specs.Prelude.{◌≡◌, [], ◌∷◌, ◌+◌, ◌<◌, eqb};
 ghost use Rattle.xosera.specs.State.{word_at, state_at};
 ghost use Rattle.xosera.specs.Ranges.{timer_in_range, are_bytes, running_in_range, idle_in_range, engine_in_range, copper_in_range};

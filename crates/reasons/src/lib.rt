@@ -1,4 +1,5 @@
 // Why a nibble of VRAM is as it is: what the call answers. Definitions and claims are in specs/.
+#![tactic(auto)]
 
 // What became of a nibble in a blit, or the number of a refusal. `HeldBack` has the reasons that applied at the last reach, one at
 // least: first mask, last mask, colour test. `Written` has line and word, from 0, of the last write.

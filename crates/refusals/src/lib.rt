@@ -1,5 +1,7 @@
 // The refusals 1 to 6 of every call: the first that applies, in their order. Where a function takes `registers` and `beam`, its caller
 // has tested these ranges already, so that the function is short enough for the compiler to put it into every call.
+#![tactic(auto)]
+
 ghost use Rattle.std.specs.Prelude.{◌≡◌, Bool, true, not, ◌&&◌, List, [], ◌∷◌, ℕ, ◌<◌, ◌≤◌, length, get_or};
 ghost use Rattle.xosera.specs.State.{is_set, state_at};
 ghost use Rattle.xosera.specs.Adapter.{adapter_at};

@@ -1,4 +1,6 @@
 // The pixels of a row of playfield A, painted to a part of a line.
+#![tactic(auto)]
+
 ghost use Rattle.std.specs.Prelude.{◌≡◌, ℕ, ◌<◌, ◌≤◌, min, true, length, slice_index};
 ghost use Rattle.xosera.specs.Fields.{h_repeat};
 ghost use Rattle.xosera.specs.Memories.{is_vram_length};

@@ -16,9 +16,9 @@ use Rattle.saved_file.specs.SaveLoad.{not_at_rest}
 use Rattle.saved_file.specs.Claims.{AllBelow, Resting}
 use Rattle.saved_file.proofs.ByteLaws.{words-length, append-below, words-16}
 
-pub at_rest : (b : Beam) → at_rest b ≡ true → b ≡ rest
+pub at_rest_lem : (b : Beam) → at_rest b ≡ true → b ≡ rest
 unfolding at_rest
-at_rest b h =
+at_rest_lem b h =
     let k = simp parts at h in
     λ i. record { line = k.0.0.0 i; position = k.0.0.1 i; running = k.0.1 i; word = k.1 i }
 
@@ -29,7 +29,7 @@ rest-passes a h = ap (λ (b : Beam). not (at_rest b)) h
 
 pub off-rest-fails : (a : Adapter) → (Resting a → ⊥) → not_at_rest a ≡ true
 unfolding not_at_rest
-off-rest-fails a d = rw (not-passed (at_rest a.side.beam) (λ h. d (at_rest a.side.beam h)))
+off-rest-fails a d = rw (not-passed (at_rest a.side.beam) (λ h. d (at_rest_lem a.side.beam h)))
 
 -- The words of a state that a file has are its first 75.
 pub register-words : (ws : List ℕ) → length (register_words (state_at ws)) ≡ 75

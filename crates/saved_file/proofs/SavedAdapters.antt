@@ -20,7 +20,7 @@ use Rattle.saved_file.specs.SaveLoad.{short_room, not_at_rest, not_saved, other_
 use Rattle.saved_file.specs.Claims.{AllBelow, Words, adapter_of, Resting, NoAdapters, SavedAdapters}
 use Rattle.saved_file.proofs.SameLaws.{same_refl}
 use Rattle.saved_file.proofs.ByteLaws.{words-16, drop-below, take_below}
-use Rattle.saved_file.proofs.RestLaws.{at_rest, rest-passes, off-rest-fails, held-16}
+use Rattle.saved_file.proofs.RestLaws.{at_rest_lem, rest-passes, off-rest-fails, held-16}
 use Rattle.saved_file.proofs.SavedLaws.{held-saved, held-words, saved-facts}
 
 -- The file of a fit adapter at rest is a saved adapter.
@@ -47,7 +47,7 @@ pub done-rests : (a : Adapter) (room : List ℕ) → save_refusal a room ≡ 0 �
 unfolding save_refusal not_at_rest first
 done-rests a room h =
     let fit = none-fit a ((7 when short_room a room) ∷ (10 when not_at_rest a) ∷ []) h in
-    at_rest a.side.beam (go (short_room a room) (at_rest a.side.beam) (sym (save-tests a room fit) ∙ h))
+    at_rest_lem a.side.beam (go (short_room a room) (at_rest a.side.beam) (sym (save-tests a room fit) ∙ h))
   where
     go : (s r : Bool) → first ((7 when s) ∷ (10 when not r) ∷ []) ≡ 0 → r ≡ true
     go true r e = absurd (omega arith)

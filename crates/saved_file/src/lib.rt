@@ -1,1 +1,2 @@
 // A saved adapter: definitions and their laws, with no code of its own.
+#![tactic(auto)]

@@ -1,5 +1,7 @@
 // Save and load: the two calls that turn an adapter into a file and back. Each works or gives the one refusal that applies and
 // changes nothing.
+#![tactic(auto)]
+
 ghost use Rattle.std.specs.Prelude.{◌≡◌};
 ghost use Rattle.xosera.specs.State.{state_at};
 ghost use Rattle.xosera.specs.Adapter.{adapter_at};

@@ -64,14 +64,14 @@ unfolding colour_index
 blank-index p v line x b = cond_yes _ _ b
 
 -- Inside the window and not blank.
-in_window : (p : Playfield) (x : ℕ) → p.left ≤ x → x < p.right → in_window p x ≡ true
+in_window_lem : (p : Playfield) (x : ℕ) → p.left ≤ x → x < p.right → in_window p x ≡ true
 unfolding in_window
-in_window p x l r = and_both (le-leb p.left x l) (lt-ltb x p.right r)
+in_window_lem p x l r = and_both (le-leb p.left x l) (lt-ltb x p.right r)
 
 pub inside-index : (p : Playfield) (v : List ℕ) (line x : ℕ) → is_blank p.gfx ≡ false → p.left ≤ x → x < p.right
     → colour_index p v line x ≡ pixel_index p (word v (shown_address p line x)) (pixel_at p x)
 unfolding colour_index
-inside-index p v line x b l r = rw (b, in_window p x l r)
+inside-index p v line x b l r = rw (b, in_window_lem p x l r)
 
 -- The index by the depth.
 four-index : (p : Playfield) (w k : ℕ) → four_bits p ≡ true → pixel_index p w k ≡ p.gfx / 4096 * 16 + nibble (3 - k % 4) w

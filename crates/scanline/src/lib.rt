@@ -1,4 +1,6 @@
 // A scanline of playfield A: the registers that painting takes, and what the call answers. Definitions and claims are in specs/.
+#![tactic(auto)]
+
 use xosera::VramAddr;
 
 // The border's colour index, XR_VID_CTRL 7:0; the window, XR_VID_LEFT and XR_VID_RIGHT; and of playfield A XR_PA_GFX_CTRL,

@@ -1,4 +1,6 @@
 // A list of events played through the public calls, each given what the one before it left.
+#![tactic(auto)]
+
 ghost use Rattle.std.specs.Prelude.{◌≡◌, List, ℕ, ◌/◌, ◌%◌, length};
 ghost use Rattle.xosera.specs.Adapter.{adapter_at};
 ghost use Rattle.xosera.specs.Events.{write, read, tick, beam, line, call, step, run};

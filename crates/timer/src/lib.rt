@@ -1,4 +1,6 @@
 // XM_TIMER: ticks, the countdown and the saved low byte.
+#![tactic(auto)]
+
 ghost use Rattle.std.specs.Prelude.{◌≡◌, ℕ, false, List, length};
 ghost use Rattle.xosera.specs.State.{state_words};
 ghost use Rattle.xosera.specs.Adapter.{Side};

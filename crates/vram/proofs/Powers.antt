@@ -37,6 +37,7 @@ listed j = leb (2 ^ j) 255 || is_vram_length (2 ^ j)
 left_out : (a b : Bool) → T (a || b) → a ≡ false → b ≡ true
 left_out true b t e = absurd (true≢false e)
 left_out false true t e = refl
+left_out false false t e = elim t [ ]
 
 pub power-length : (n : ℕ) → 256 ≤ n → n ≤ 65536 → bit_and n (n - 1) ≡ 0 → is_vram_length n ≡ true
 unfolding is_vram_length

@@ -1,4 +1,6 @@
 // VRAM by its address modulo the length.
+#![tactic(auto)]
+
 ghost use Rattle.std.specs.Prelude.{◌≡◌, true, ℕ, ◌%◌, ◌<◌, length};
 ghost use Rattle.xosera.specs.Memories.{is_vram_length, word, stored};
 ghost use Rattle.words.specs.Spread.{spread};

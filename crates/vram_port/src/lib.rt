@@ -1,4 +1,6 @@
 // The VRAM data ports, XM_DATA and XM_DATA_2: reads through the read buffer, writes under the nibble mask.
+#![tactic(auto)]
+
 ghost use Rattle.std.specs.Prelude.{◌≡◌, ℕ, true, List, length};
 ghost use Rattle.xosera.specs.State.{state_words, state_at};
 ghost use Rattle.xosera.specs.Memories.{is_vram_length};

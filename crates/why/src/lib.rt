@@ -1,4 +1,6 @@
 // Why a nibble of VRAM is as it is: a blit done on a copy of the memory, with an account of what its words did to that nibble.
+#![tactic(auto)]
+
 ghost use Rattle.std.specs.Prelude.{◌≡◌, true, false, ◌%◌, ◌≤◌, ◌<◌, eqb, length};
 ghost use Rattle.xosera.specs.Memories.{is_vram_length};
 ghost use Rattle.xosera.specs.Blitter.{sourced, drawing};

@@ -1,5 +1,6 @@
 // The adapter's types by value: the two kinds of address, the blitter's registers and engine, and what a call answers. The
 // state is a fixed number of 16-bit words, lent to each call; their meaning is in specs/State.antt, their names are here.
+#![tactic(auto)]
 
 // An address in VRAM.
 #[repr(C)]

@@ -1,4 +1,6 @@
 // XR memory by parts: tile, colour and copper. The colour part is lent on by itself.
+#![tactic(auto)]
+
 ghost use Rattle.std.specs.Prelude.{◌≡◌, ◌<◌, ◌≤◌, length, get_or, set};
 ghost use Rattle.xosera.specs.State.{Video, Beam};
 ghost use Rattle.xosera.specs.XrSpace.{within, xr_read, xr_memory_write};

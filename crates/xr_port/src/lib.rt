@@ -1,5 +1,7 @@
 // The XR data port, XM_XDATA: reads through the read buffer, writes anywhere in the XR space. The copper's MOVER uses
 // write_register too.
+#![tactic(auto)]
+
 ghost use Rattle.std.specs.Prelude.{◌≡◌, ℕ, ◌<◌, ◌≤◌, List, length};
 ghost use Rattle.xosera.specs.State.{state_words, state_at};
 ghost use Rattle.xosera.specs.Adapter.{Side};

@@ -1,4 +1,6 @@
 // The stored registers of the XR space, as words of the state.
+#![tactic(auto)]
+
 ghost use Rattle.std.specs.Prelude.{◌≡◌, ◌<◌, length};
 ghost use Rattle.xosera.specs.State.{state_words, state_at};
 ghost use Rattle.xosera.specs.XrSpace.{register_read, xr_read};

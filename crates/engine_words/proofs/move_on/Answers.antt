@@ -1,0 +1,20 @@
+-- Five stores.
+use mathlib.Core.Path.{refl}
+use mathlib.Core.List.{[], ◌∷◌}
+use Rattle.xosera.specs.State.{state_at}
+use Rattle.xosera.proofs.WordLaws.{◌takes◌, stored-state}
+use lib.ListN.{length-set}
+use native.Mathlib.Omega.{arith}
+use borrow.Author.Rules.{rules}
+use Rattle.engine_words.proofs.move_on.Goals as goal
+
+-- UNMAPPED same_length
+-- same_length : tie.Need-same-length
+-- same_length c = search rules
+
+pub returns : goal.returns
+unfolding state_at
+returns c =
+    let e = c.args.e in
+    stored-state c.args.s.now c.requires
+    ((33 takes e.line) ∷ (34 takes e.word) ∷ (35 takes e.kept) ∷ (40 takes e.regs.srcs) ∷ (42 takes e.regs.dstd) ∷ []) refl
