@@ -3,7 +3,7 @@
 use crate::registers::*;
 use xosera::STATE_WORDS;
 
-#[derive(Drop)]
+#[derive(Clone, Copy)]
 pub struct Bench {
     pub state: [u16; STATE_WORDS],
     pub vram: [u16; 256],

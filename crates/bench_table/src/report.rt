@@ -25,7 +25,7 @@ const CASES: [u8; LENGTH] = *b"\
     ";
 
 // How far the cases are printed, and how many rows were as they should be.
-#[derive(Drop)]
+#[derive(Clone, Copy)]
 pub struct Table {
     pub at: usize,
     pub good: u64,

@@ -148,7 +148,7 @@ pub fn next_mask(e: Engine, vram: &[u16]) -> u16
 }
 
 // What drawing a word came to: the word taken, and the nibbles written, as a spread mask.
-#[derive(Drop)]
+#[derive(Clone, Copy)]
 pub struct Drawn {
     pub word: u16,
     pub bits: u16,

@@ -10,7 +10,7 @@ ghost use Rattle.engine_runs.specs.Progress.{Going, RanTo};
 use xosera::Engine;
 
 // What a run inside one blit came to: the engine and the rest of the steps, or the blit's end.
-#[derive(Drop)]
+#[derive(Clone, Copy)]
 pub struct Ran {
     pub engine: Engine,
     pub rest: u64,

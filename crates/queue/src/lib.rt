@@ -47,7 +47,7 @@ pub fn end_blit(s: &mut [u16])
 }
 
 // What some blit steps came to: how many words were done, and the nibbles that the last of them wrote.
-#[derive(Drop)]
+#[derive(Clone, Copy)]
 pub struct Done {
     pub count: u64,
     pub mask: u16,

@@ -3,7 +3,7 @@
 
 // What became of a nibble in a blit, or the number of a refusal. `HeldBack` has the reasons that applied at the last reach, one at
 // least: first mask, last mask, colour test. `Written` has line and word, from 0, of the last write.
-#[derive(Drop)]
+#[derive(Clone, Copy)]
 pub enum Why {
     Refused(u8),
     NeverReached,
@@ -20,7 +20,7 @@ pub enum Why {
 
 // The same as numbers, for C; specs/WhyCall.antt says which (`numbers`).
 #[repr(C)]
-#[derive(Drop)]
+#[derive(Clone, Copy)]
 pub struct WhyAnswer {
     pub refusal: u8,
     pub fate: u8,

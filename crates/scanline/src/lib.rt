@@ -5,7 +5,7 @@ use xosera::VramAddr;
 
 // The border's colour index, XR_VID_CTRL 7:0; the window, XR_VID_LEFT and XR_VID_RIGHT; and of playfield A XR_PA_GFX_CTRL,
 // XR_PA_DISP_ADDR and XR_PA_LINE_LEN.
-#[derive(Drop)]
+#[derive(Clone, Copy)]
 pub struct Playfield {
     pub border: u8,
     pub left: u16,
@@ -17,7 +17,7 @@ pub struct Playfield {
 
 // What painting a scanline answers.
 #[repr(C)]
-#[derive(Drop)]
+#[derive(Clone, Copy)]
 pub struct PaintAnswer {
     pub refusal: u8,
 }

@@ -10,7 +10,7 @@ ghost use Rattle.sequence.specs.Played.{of_outcome, event_of, events_of, answers
 use xosera::STATE_WORDS;
 
 // What one event answered.
-#[derive(Drop)]
+#[derive(Clone, Copy)]
 pub struct Outcome {
     pub refusal: u8,
     pub mask: u8,

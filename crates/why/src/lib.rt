@@ -59,7 +59,7 @@ fn goes_to(e: Engine, n: usize, address: usize) -> bool
 }
 
 // The word that a step took, and what is known of the nibble after it.
-#[derive(Drop)]
+#[derive(Clone, Copy)]
 struct Noted {
     word: u16,
     why: Why,

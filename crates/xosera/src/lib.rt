@@ -4,17 +4,17 @@
 
 // An address in VRAM.
 #[repr(C)]
-#[derive(Drop)]
+#[derive(Clone, Copy)]
 pub struct VramAddr(pub u16);
 
 // An address in the extended (XR) space. It never stands for a VRAM address.
 #[repr(C)]
-#[derive(Drop)]
+#[derive(Clone, Copy)]
 pub struct XrAddr(pub u16);
 
 // The blitter's ten registers, 0x40 to 0x49.
 #[repr(C)]
-#[derive(Drop)]
+#[derive(Clone, Copy)]
 pub struct BlitRegs {
     pub ctrl: u16,
     pub andc: u16,
@@ -31,7 +31,7 @@ pub struct BlitRegs {
 // The running blit: whether one runs, 1 or 0; the line and the word that come next; the source word kept for the
 // shifter; and the registers as copied, SRC_S and DST_D moving on in place.
 #[repr(C)]
-#[derive(Drop)]
+#[derive(Clone, Copy)]
 pub struct Engine {
     pub running: u16,
     pub line: u16,
@@ -43,7 +43,7 @@ pub struct Engine {
 // What writing a byte answers. In every answer `refusal` is 0 for done. `mask` has the nibbles of VRAM that were written, bit 3 for
 // 15:12 of the word to bit 0 for 3:0, and is 0 of all but an odd data write.
 #[repr(C)]
-#[derive(Drop)]
+#[derive(Clone, Copy)]
 pub struct WriteAnswer {
     pub refusal: u8,
     pub mask: u8,
@@ -51,7 +51,7 @@ pub struct WriteAnswer {
 
 // What reading a byte answers.
 #[repr(C)]
-#[derive(Drop)]
+#[derive(Clone, Copy)]
 pub struct ReadAnswer {
     pub refusal: u8,
     pub byte: u8,
@@ -59,7 +59,7 @@ pub struct ReadAnswer {
 
 // What a blit step and a run of blit steps answer: how many words were done, and the nibbles that the last of them wrote.
 #[repr(C)]
-#[derive(Drop)]
+#[derive(Clone, Copy)]
 pub struct BlitAnswer {
     pub refusal: u8,
     pub mask: u8,
@@ -68,14 +68,14 @@ pub struct BlitAnswer {
 
 // What a timer tick and a beam step answer.
 #[repr(C)]
-#[derive(Drop)]
+#[derive(Clone, Copy)]
 pub struct StateAnswer {
     pub refusal: u8,
 }
 
 // What the line question answers: whether the interrupt line is up.
 #[repr(C)]
-#[derive(Drop)]
+#[derive(Clone, Copy)]
 pub struct LineAnswer {
     pub refusal: u8,
     pub up: bool,
@@ -83,7 +83,7 @@ pub struct LineAnswer {
 
 // What a save answers: the length of the file in bytes.
 #[repr(C)]
-#[derive(Drop)]
+#[derive(Clone, Copy)]
 pub struct SaveAnswer {
     pub refusal: u8,
     pub length: u64,
@@ -91,7 +91,7 @@ pub struct SaveAnswer {
 
 // What a load answers.
 #[repr(C)]
-#[derive(Drop)]
+#[derive(Clone, Copy)]
 pub struct LoadAnswer {
     pub refusal: u8,
 }
