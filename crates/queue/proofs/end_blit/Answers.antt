@@ -1,0 +1,17 @@
+-- Two stores and the next engine.
+use lib.ListN.{length-set}
+use Rattle.xosera.specs.State.{state_at}
+use Rattle.queue.proofs.Starts.{end-stored}
+use borrow.Author.Rules.{rules}
+use Rattle.queue.proofs.end_blit.Goals as goal
+
+-- UNMAPPED same_length
+-- same_length : tie.Need-same-length
+-- same_length c =
+--     let at-s = c.before in
+--     simp length-set at at-s.s.given
+
+pub returns : goal.returns
+unfolding state_at
+returns c =
+    λ v x. end-stored c.args.s.now c.requires v x c.successor-e.ensures c.put_engine.ensures
