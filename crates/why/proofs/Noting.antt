@@ -27,12 +27,12 @@ use Rattle.why.specs.Reaches.{after_reach, noted_at}
 use Rattle.why.specs.Progress.{Known, Passed}
 
 -- A known answer that is not "written" is replaced.
-pub unless-other : (w held : Why) → OneOf (0 ∷ 1 ∷ 2 ∷ []) (tag_of the_type w) → unless_written w held ≡ held
+pub unless-other : (w held : Why) → ((line word : ℕ) → w ≡ Written line word → ⊥) → unless_written w held ≡ held
 unfolding unless_written
 unless-other (Refused n) held k = refl
 unless-other NeverReached held k = refl
 unless-other (HeldBack f l c) held k = refl
-unless-other (Written l i) held k = absurd (miss (0 ∷ 1 ∷ 2 ∷ []) 3 tt k)
+unless-other (Written l i) held k = absurd (k l i refl)
 
 -- A step on a running engine is noted as its word is.
 module _ (p : Pixel) (a : Adapter) (f : Engine) (u : List ℕ) (known : Why) (runs : Running f) where
