@@ -30,9 +30,9 @@ returns-then-count-eq0 c =
 
 pub run_both-requires-2 : goal.run_both-requires-2
 run_both-requires-2 c =
-    let start = c in
-    let range = still-in-range (here (goal.at.run_both-requires-2 c).After-words_left []) start.requires.1.1 start.args.n (counted (goal.at.run_both-requires-2 c).After-smaller-count []) (some (goal.at.run_both-requires-2 c).Else-count-eq0) (c.run_both.ensures []) in
-    record { s_len = c.s-1.given ∙ start.requires.0; vram_value = long-enough c.vram-1.given start.requires.1.0; s_value = range; }
+    
+    let range = still-in-range (here (goal.at.run_both-requires-2 c).After-words_left []) c.requires.s_value c.args.n (counted (goal.at.run_both-requires-2 c).After-smaller-count []) (some (goal.at.run_both-requires-2 c).Else-count-eq0) (c.run_both.ensures []) in
+    record { s_len = c.run_both.auto.s ∙ c.requires.s_len; vram_value = long-enough c.run_both.auto.vram c.requires.vram_value; s_value = range; }
 
 pub returns : goal.returns
 returns c =

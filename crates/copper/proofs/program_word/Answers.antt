@@ -1,0 +1,8 @@
+-- The word at its place.
+use Rattle.std.proofs.Common.{refl, rules}
+use Rattle.xosera.specs.Copper.{program_at}
+use Rattle.copper.proofs.program_word.Goals as goal
+
+pub returns : goal.returns
+unfolding program_at
+returns c = refl
