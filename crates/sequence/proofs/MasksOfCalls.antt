@@ -29,11 +29,11 @@ step-wrote-its-mask {a} d ok on =
 abbrev mask_at : ℕ → List Answer → ℕ
 mask_at k told = get_or (map (λ (x : Answer). x.mask) told) k 0
 
-mask_at : (k : ℕ) (a : Adapter) → Fit a → mask_at k (all_answers a (replicate (suc k) step)) ≡ (answer (steps k a) step).mask
+mask_at_lem : (k : ℕ) (a : Adapter) → Fit a → mask_at k (all_answers a (replicate (suc k) step)) ≡ (answer (steps k a) step).mask
 unfolding all_answers steps
-mask_at zero a fit = refl
-mask_at (suc k) a fit =
-    ap (λ (b : Adapter). mask_at k (all_answers b (replicate (suc k) step))) (after-step a fit) ∙ mask_at k (stepped a) (stepped-fit a fit)
+mask_at_lem zero a fit = refl
+mask_at_lem (suc k) a fit =
+    ap (λ (b : Adapter). mask_at k (all_answers b (replicate (suc k) step))) (after-step a fit) ∙ mask_at_lem k (stepped a) (stepped-fit a fit)
 
 pub run-answers-its-last-mask : {a b c : Adapter} {n k : ℕ} {told : Answer} {each : List Answer} → Does a (run n) told b → told.refusal ≡ 0
     → told.value ≡ suc k → Played a (replicate (suc k) step) each c → told.mask ≡ mask_at k each
@@ -41,4 +41,4 @@ unfolding tests
 run-answers-its-last-mask {a} {n = n} {k} d ok counts p =
     let fit : Fit a = lent-fit a (run n) refl (does-accepted d ok) in
     ap (λ (x : Answer). x.mask) d.answers ∙ masks.ran a n k (sym (ap (λ (x : Answer). x.value) d.answers) ∙ counts)
-    ∙ rw (after_run a fit k) (sym (mask_at k a fit)) ∙ ap (mask_at k) (sym p.answered)
+    ∙ rw (after_run a fit k) (sym (mask_at_lem k a fit)) ∙ ap (mask_at k) (sym p.answered)

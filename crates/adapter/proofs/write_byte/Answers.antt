@@ -42,4 +42,4 @@ returns c =
     let ok = accepted (goal.at.returns c).Else-refusal-ne0 in
     let four = write-mask-four (here (goal.at.returns c).After-write_refusal-refusal) a.reg a.odd a.byte (accepted-in-range (here (goal.at.returns c).After-write_refusal-refusal) (event (goal.at.returns c).After-write_refusal-refusal) ok) in
     let done = c.write.ensures in
-    record { done = performed (here (goal.at.returns c).After-write_refusal-refusal) (event (goal.at.returns c).After-write_refusal-refusal) 0 _ _ ok refl (byte_mask c.low_byte-mask.ensures done.1 four) done.0; refused = λ n. absurd (n refl); }
+    record { done = performed (here (goal.at.returns c).After-write_refusal-refusal) (event (goal.at.returns c).After-write_refusal-refusal) 0 _ _ ok refl (byte_mask c.low_byte-mask.ensures done.mask four) done.done; refused = λ n. absurd (n refl); }

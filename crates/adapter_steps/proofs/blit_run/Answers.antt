@@ -39,6 +39,6 @@ unfolding done given wrote
 returns c =
     let a = c.args in
     let told = c.run-done.ensures in
-    let count = told.1.0 a.xr.now in
-    let mask = byte_mask c.low_byte-mask.ensures (told.1.1 a.xr.now ∙ ap (λ (k : ℕ). nth_mask k (here (goal.at.returns c).After-lent_refusal-refusal)) count)
-    (nth-mask-small _ (here (goal.at.returns c).After-lent_refusal-refusal)) in record { done = performed (here (goal.at.returns c).After-lent_refusal-refusal) (run a.n) _ _ _ (accepted (goal.at.returns c).Else-refusal-ne0) count mask (told.0 a.xr.now); refused = λ n. absurd (n refl); }
+    let count = told.count a.xr.now in
+    let mask = byte_mask c.low_byte-mask.ensures (told.mask a.xr.now ∙ ap (λ (k : ℕ). nth_mask k (here (goal.at.returns c).After-lent_refusal-refusal)) count)
+    (nth-mask-small _ (here (goal.at.returns c).After-lent_refusal-refusal)) in record { done = performed (here (goal.at.returns c).After-lent_refusal-refusal) (run a.n) _ _ _ (accepted (goal.at.returns c).Else-refusal-ne0) count mask (told.after a.xr.now); refused = λ n. absurd (n refl); }

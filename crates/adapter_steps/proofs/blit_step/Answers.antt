@@ -35,5 +35,5 @@ unfolding done given wrote
 returns c =
     let x = c.args.xr.now in
     let told = c.step-done.ensures in
-    let mask = byte_mask c.low_byte-mask.ensures (told.1.1 x) (step-mask-small (here (goal.at.returns c).After-lent_refusal-refusal)) in
-    record { done = performed (here (goal.at.returns c).After-lent_refusal-refusal) step _ _ _ (accepted (goal.at.returns c).Else-refusal-ne0) (told.1.0 x) mask (told.0 x); refused = λ n. absurd (n refl); }
+    let mask = byte_mask c.low_byte-mask.ensures (told.mask x) (step-mask-small (here (goal.at.returns c).After-lent_refusal-refusal)) in
+    record { done = performed (here (goal.at.returns c).After-lent_refusal-refusal) step _ _ _ (accepted (goal.at.returns c).Else-refusal-ne0) (told.count x) mask (told.after x); refused = λ n. absurd (n refl); }
