@@ -8,15 +8,15 @@ mod report;
 mod table;
 
 use crate::report::Table;
+use std::io;
 
-fn main() {
-    report::put(b"case | should give | gave | verdict\n");
-    let mut t = table::drawing(Table { at: 0, good: 0 });
-    t = table::places(t);
-    t = table::hosts(t);
-    t = table::timers(t);
-    t = table::queues(t);
-    t = table::shifted_lines(t);
-    io::print_decimal(libc::STDOUT_FILENO, t.good);
-    report::put(b" of 16 rows as they should be\n");
+fn main(rt: HostRuntime) -> io::Result<()> {
+    report::put(&rt, b"case | should give | gave | verdict\n")?;
+    let mut t = table::drawing(&rt, Table { at: 0, good: 0 })?;
+    t = table::places(&rt, t)?;
+    t = table::hosts(&rt, t)?;
+    t = table::timers(&rt, t)?;
+    t = table::queues(&rt, t)?;
+    t = table::shifted_lines(&rt, t)?;
+    println!(rt; "{} of 16 rows as they should be", t.good)
 }

@@ -1,6 +1,6 @@
 // The table as it is printed.
 use crate::bench::Bench;
-use libc::STDOUT_FILENO;
+use std::io;
 
 // Each case and the form of its outcome: @ shows the next digit told, ^ and & bits 5 and 6 of the next byte.
 const LENGTH: usize = 774;
@@ -32,13 +32,13 @@ pub struct Table {
 }
 
 // Text as it stands, and one byte of it.
-pub fn put(text: &[u8]) {
-    io::write_all(STDOUT_FILENO, text);
+pub fn put(rt: &impl Print, text: &[u8]) -> io::Result<()> {
+    rt.write_all(text)
 }
 
-fn put_byte(byte: u8) {
+fn put_byte(rt: &impl Print, byte: u8) -> io::Result<()> {
     let text = [byte];
-    put(&text);
+    put(rt, &text)
 }
 
 // What a mark shows of the digits told, the next at the top; and the digits that it leaves.
@@ -61,33 +61,33 @@ fn rest(mark: u8, digits: u64) -> u64 {
 }
 
 // The column from a place on, up to its bar, with digits in place of its marks. Gives the next column's place.
-fn column(from: usize, told: u64) -> usize {
+fn column(rt: &impl Print, from: usize, told: u64) -> io::Result<usize> {
     let mut digits = (told << (u64::leading_zeros(told) % 64)) << 1;
     let mut i = from;
     while i < LENGTH {
         let mark = CASES[i];
-        put_byte(shown(mark, digits));
+        put_byte(rt, shown(mark, digits))?;
         i += 1;
         if mark == b'|' {
-            return i;
+            return Ok(i);
         }
         digits = rest(mark, digits);
     }
-    i
+    Ok(i)
 }
 
 impl Table {
     // A row: its case, what it should tell, what it told, and the verdict.
-    pub fn row(mut self, should: u64, b: Bench) -> Table {
-        let form = column(self.at, 0);
-        column(form, should);
-        self.at = column(form, b.told);
+    pub fn row(mut self, rt: &impl Print, should: u64, b: Bench) -> io::Result<Table> {
+        let form = column(rt, self.at, 0)?;
+        column(rt, form, should)?;
+        self.at = column(rt, form, b.told)?;
         if should == b.told {
-            put(b" ok\n");
+            put(rt, b" ok\n")?;
             self.good = std::num::wrapping_add_u64(self.good, 1);
         } else {
-            put(b" WRONG\n");
+            put(rt, b" WRONG\n")?;
         }
-        self
+        Ok(self)
     }
 }

@@ -2,9 +2,10 @@
 use crate::bench::fresh;
 use crate::registers::*;
 use crate::report::Table;
+use std::io;
 
 // What a blit draws.
-pub fn drawing(mut t: Table) -> Table {
+pub fn drawing(rt: &impl Print, mut t: Table) -> io::Result<Table> {
     // SHIFT 7801, 3 words 1234 5678 9ABC.
     let mut b = fresh();
     b = b.set(WR_INCR, 1);
@@ -16,33 +17,33 @@ pub fn drawing(mut t: Table) -> Table {
     b = b.see(0);
     b = b.see(1);
     b = b.see(2);
-    t = t.row(0x1_F123_4567_8FFF, b);
+    t = t.row(rt, 0x1_F123_4567_8FFF, b)?;
     // Constant 0F3C, ANDC 00FF, XOR 1111.
     b = fresh();
     b = b.xr(ANDC, 0x00FF);
     b = b.xr(XOR, 0x1111);
     b = b.blit(1, 0x0F3C, MASKS, 0);
     b = b.see(0);
-    t = t.row(0x1_1E11, b);
+    t = t.row(rt, 0x1_1E11, b)?;
     // Constant 0B0A, CTRL 0A11.
     b = fresh();
     b = b.blit(0x0A11, 0x0B0A, MASKS, 0);
     b = b.see(0);
-    t = t.row(0x1_FBFF, b);
+    t = t.row(rt, 0x1_FBFF, b)?;
     // Same, CTRL 0A31.
     b = fresh();
     b = b.blit(0x0A31, 0x0B0A, MASKS, 0);
     b = b.see(0);
-    t.row(0x1_0BFF, b)
+    t.row(rt, 0x1_0BFF, b)
 }
 
 // Where a blit draws.
-pub fn places(mut t: Table) -> Table {
+pub fn places(rt: &impl Print, mut t: Table) -> io::Result<Table> {
     // One word, constant 1234, SHIFT 7E00.
     let mut b = fresh();
     b = b.blit(1, 0x1234, 0x7E00, 0);
     b = b.see(0);
-    t = t.row(0x1_F23F, b);
+    t = t.row(rt, 0x1_F23F, b)?;
     // Constant 7, MOD_S 1, 3 lines of 1.
     b = fresh();
     b = b.xr(MOD_S, 1);
@@ -51,7 +52,7 @@ pub fn places(mut t: Table) -> Table {
     b = b.see(0);
     b = b.see(1);
     b = b.see(2);
-    t = t.row(0x1_0007_0008_0009, b);
+    t = t.row(rt, 0x1_0007_0008_0009, b)?;
     // Source 0x10 holds A, target 0x11, 3 words.
     b = fresh();
     b = b.set(WR_ADDR, 0x10);
@@ -61,17 +62,17 @@ pub fn places(mut t: Table) -> Table {
     b = b.see(0x11);
     b = b.see(0x12);
     b = b.see(0x13);
-    t.row(0x1_000A_000A_000A, b)
+    t.row(rt, 0x1_000A_000A_000A, b)
 }
 
 // The host's registers.
-pub fn hosts(mut t: Table) -> Table {
+pub fn hosts(rt: &impl Print, mut t: Table) -> io::Result<Table> {
     // Nibble mask 2, data write 1234.
     let mut b = fresh();
     b = b.set(SYS_CTRL, 2);
     b = b.set(DATA, 0x1234);
     b = b.see(0);
-    t = t.row(0x1_FF3F, b);
+    t = t.row(rt, 0x1_FF3F, b)?;
     // 5 holds BEEF, read address 5, store 0 at 5, read.
     b = fresh();
     b = b.set(WR_ADDR, 5);
@@ -79,7 +80,7 @@ pub fn hosts(mut t: Table) -> Table {
     b = b.set(RD_ADDR, 5);
     b = b.set(DATA, 0);
     b = b.word(DATA);
-    t = t.row(0x1_BEEF, b);
+    t = t.row(rt, 0x1_BEEF, b)?;
     // Write address FFFF, step 1; 1, step FFFE.
     b = fresh();
     b = b.set(WR_ADDR, 0xFFFF);
@@ -90,18 +91,18 @@ pub fn hosts(mut t: Table) -> Table {
     b = b.set(WR_INCR, 0xFFFE);
     b = b.set(DATA, 0);
     b = b.word(WR_ADDR);
-    t.row(0x1_0000_FFFF, b)
+    t.row(rt, 0x1_0000_FFFF, b)
 }
 
 // The timer.
-pub fn timers(mut t: Table) -> Table {
+pub fn timers(rt: &impl Print, mut t: Table) -> io::Result<Table> {
     // Timer 00FF, high read, tick, low read.
     let mut b = fresh();
     b = b.tick(0xFF);
     b = b.read(TIMER, false);
     b = b.tick(1);
     b = b.read(TIMER, true);
-    t = t.row(0x1_00FF, b);
+    t = t.row(rt, 0x1_00FF, b)?;
     // Countdown 2; a write clears the status.
     b = fresh();
     b = b.set(TIMER, 2);
@@ -114,18 +115,18 @@ pub fn timers(mut t: Table) -> Table {
     b = b.read(INT_CTRL, true);
     b = b.tick(1);
     b = b.read(INT_CTRL, true);
-    t.row(0x1_00_20_00_20, b)
+    t.row(rt, 0x1_00_20_00_20, b)
 }
 
 // A blit's length, and the queued blit.
-pub fn queues(mut t: Table) -> Table {
+pub fn queues(rt: &impl Print, mut t: Table) -> io::Result<Table> {
     // LINES 8000.
     let mut b = fresh();
     b = b.xr(LINES, 0x8000);
     b = b.xr(WORDS, 0);
     b = b.run(9);
     b = b.tell();
-    t = t.row(0x1_1, b);
+    t = t.row(rt, 0x1_1, b)?;
     // 3 words running, 2 queued, run 4: count, busy, full, bit 6. After reset the high byte of XM_SYS_CTRL has bit 3 too, the beam in
     // left blanking.
     b = fresh();
@@ -136,7 +137,7 @@ pub fn queues(mut t: Table) -> Table {
     b = b.read(SYS_CTRL, false);
     b = b.read(SYS_CTRL, false);
     b = b.read(INT_CTRL, true);
-    t = t.row(0x1_4_28_28_40, b);
+    t = t.row(rt, 0x1_4_28_28_40, b)?;
     // Queued, then write ANDC.
     b = fresh();
     b = b.xr(WORDS, 0);
@@ -144,11 +145,11 @@ pub fn queues(mut t: Table) -> Table {
     b = b.xr(ANDC, 0);
     b = b.tell();
     b = b.word(WR_XADDR);
-    t.row(0x1_5_0041, b)
+    t.row(rt, 0x1_5_0041, b)
 }
 
 // From line to line (document 02, request 4).
-pub fn shifted_lines(t: Table) -> Table {
+pub fn shifted_lines(rt: &impl Print, t: Table) -> io::Result<Table> {
     // Shift 1, two lines of one word, sources 1234 and 5678, masks open.
     let mut b = fresh();
     b = b.set(WR_INCR, 1);
@@ -159,5 +160,5 @@ pub fn shifted_lines(t: Table) -> Table {
     b = b.blit(0, 0x10, 0xFF01, 0);
     b = b.see(0);
     b = b.see(1);
-    t.row(0x1_0123_4567, b)
+    t.row(rt, 0x1_0123_4567, b)
 }

@@ -6,28 +6,6 @@ use Rattle.engine_runs.specs.Progress.{Going}
 use Rattle.engine_runs.proofs.Runs.{going_start, going-trans, going-drawn, drawn-ended, ran-all, ran_over, long-enough}
 use Rattle.engine_runs.proofs.run_blit.Goals as goal
 
--- UNMAPPED same_length
--- same_length : tie.Need-same-length invariant-loop decreases-loop
--- same_length c =
---     let at-draw = c.before.before.before.before in
---     let at-if1 = at-draw.before.before in
---     let at-run-inside = at-if1.before.before.before.before in
---     let at-loop = at-run-inside.before.before.before in
---     let so_far = going-trans at-loop.loop.invariant at-run-inside.run_Inside.ensures in
---     let last = sym c.before.last_step.ensures ∙ c.if2.true in
---     (drawn-ended so_far (omega (arith, at-if1.if1.false)) last at-draw.draw.ensures.leaves).vram-length
-
--- UNMAPPED same-length-2
--- same-length-2 : tie.Need-same-length-2 invariant-loop decreases-loop
--- same-length-2 c = c.before.loop.invariant.vram-length
-
--- UNMAPPED same-length-3
--- same-length-3 : tie.Need-same-length-3 invariant-loop decreases-loop
--- same-length-3 c =
---     let at-run-inside = c.before.before.before.before in
---     let at-loop = at-run-inside.before.before.before in
---     at-run-inside.run_Inside.ensures.vram-length ∙ at-loop.loop.invariant.vram-length
-
 pub returns-then-last_step : goal.returns-then-last_step
 returns-then-last_step c =
     let so_far = going-trans c.loop-rest.invariant c.run_inside-inside.ensures in

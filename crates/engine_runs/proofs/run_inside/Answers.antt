@@ -6,18 +6,6 @@ use Rattle.xosera.proofs.EngineLaws.{inside-not-last}
 use Rattle.engine_runs.proofs.Runs.{going_start, going-drawn, long-enough}
 use Rattle.engine_runs.proofs.run_inside.Goals as goal
 
--- UNMAPPED same_length
--- same_length : tie.Need-same-length invariant-loop decreases-loop
--- same_length c = c.before.loop.invariant.vram-length
-
--- UNMAPPED same-length-2
--- same-length-2 : tie.Need-same-length-2 invariant-loop decreases-loop
--- same-length-2 c = c.before.before.before.loop.invariant.vram-length
-
--- UNMAPPED same-length-3
--- same-length-3 : tie.Need-same-length-3 invariant-loop decreases-loop
--- same-length-3 c = c.before.before.before.before.before.loop.invariant.vram-length
-
 pub advance-at-requires : goal.advance-at-requires
 advance-at-requires c =
     record { running = c.loop-rest.invariant.goes_on; e_value = inside-not-last _ (sym c.last_word.ensures ∙ c.if-last_word.false); }

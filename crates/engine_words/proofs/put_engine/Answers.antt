@@ -8,10 +8,6 @@ use native.Mathlib.Omega.{arith}
 use borrow.Author.Rules.{rules}
 use Rattle.engine_words.proofs.put_engine.Goals as goal
 
--- UNMAPPED same_length
--- same_length : tie.Need-same-length
--- same_length c = search rules
-
 pub returns : goal.returns
 unfolding state_at
 returns c =

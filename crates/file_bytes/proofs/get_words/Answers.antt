@@ -19,10 +19,6 @@ long c =
     ∙ over-length (words_of a.part.now) a.words.now c.loop-i.i
     (sym (words-length a.part.now (length a.words.now) c.requires))
 
--- UNMAPPED same_length
--- same_length : tie.Need-same-length invariant-loop decreases-loop
--- same_length c = long c.before
-
 pub loop-i-preserved : goal.loop-i-preserved
 loop-i-preserved c =
     let below : c.loop-i.i < length c.args.words.now = omega (arith, c.loop-i-test.true, long (goal.at.loop-i-preserved c).At-loop-i) in (

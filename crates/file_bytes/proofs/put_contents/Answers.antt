@@ -44,11 +44,6 @@ has-two c =
     part-next one (entry 2 178 13312) (room (goal.at.After-slice_known-3-1 c).After-slice_known-2-1) 10 9 (ap suc (entry_length 1 28 150)) (entry_length 2 178 13312) (has_one (goal.at.After-slice_known-3-1 c).After-slice_known-2-1)
     c.put_entry-2.ensures
 
--- UNMAPPED same_length
--- same_length : tie.Need-same-length
--- unfolding contents entries entry bytes_of
--- same_length c = ap length (returns c) ∙ sym (from c.before.before.before.before.before.before.before.before).requires
-
 pub returns : goal.returns
 unfolding contents entries entry bytes_of
 returns c =

@@ -26,10 +26,5 @@ stands c =
     behind-first a.kind _ a.part.now 8 c.requires (ap length (tail c) ∙ bytes-length _)
     ∙ ap (λ (ys : List ℕ). a.kind ∷ ys) (tail c)
 
--- UNMAPPED same_length
--- same_length : tie.Need-same-length
--- unfolding entry
--- same_length c = ap length (stands c) ∙ ap suc (bytes-length _) ∙ sym (began c).requires
-
 pub returns : goal.returns
 returns c = stands (goal.at.returns c).After-slice_known-2-1

@@ -19,10 +19,6 @@ long c =
     let h = c.requires in
     ap length c.loop-i.invariant.1 ∙ over-length (bytes_of a.words.now) a.part.now (2 * c.loop-i.i) (omega arith) ∙ h
 
--- UNMAPPED same_length
--- same_length : tie.Need-same-length invariant-loop decreases-loop
--- same_length c = long c.before ∙ sym c.before.before.before.before.requires
-
 pub loop-i-preserved : goal.loop-i-preserved
 loop-i-preserved c =
     let w = get_or c.args.words.now c.loop-i.i 0 in (

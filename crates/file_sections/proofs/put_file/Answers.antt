@@ -13,16 +13,6 @@ use Rattle.saved_file.proofs.SavedLaws.{contents_for, contents-length, state-byt
 use Rattle.file_bytes.proofs.RoomLaws.{laid-length, four-parts}
 use Rattle.file_sections.proofs.put_file.Goals as goal
 
--- A file and what is behind it are as long as the room was.
--- UNMAPPED same_length
--- same_length : tie.Need-same-length
--- same_length c =
---     let start = c.before.before.before.before.before.before.before.before.before.before.before.before.before.before.before.before.before.before.before.before.before in
---     let a = start.args in
---     let pre = start.pre in
---     laid-length (saved (adapter_at a.s.now a.vram.now a.xr.now)) a.room.now (13490 + 2 * length a.vram.now)
---     (saved-length a.s.now a.vram.now a.xr.now pre.1.0) pre.1.1.1 (returns c)
-
 pub returns : goal.returns
 returns c =
     let a = c.args in

@@ -5,12 +5,6 @@ use Rattle.queue.proofs.Starts.{end-stored}
 use borrow.Author.Rules.{rules}
 use Rattle.queue.proofs.end_blit.Goals as goal
 
--- UNMAPPED same_length
--- same_length : tie.Need-same-length
--- same_length c =
---     let at-s = c.before in
---     simp length-set at at-s.s.given
-
 pub returns : goal.returns
 unfolding state_at
 returns c =

@@ -7,12 +7,6 @@ use Rattle.queue.proofs.Starts.{start-queues, start-launches}
 use borrow.Author.Rules.{rules}
 use Rattle.queue.proofs.start.Goals as goal
 
--- UNMAPPED same-length-2
--- same-length-2 : tie.Need-same-length-2
--- same-length-2 c =
---     let at-s = c.before in
---     simp length-set at at-s.s.given
-
 pub returns-then-was-eq1 : goal.returns-then-was-eq1
 returns-then-was-eq1 c =
     λ v x. start-queues c.args.s.now c.requires v x (eq-eqb _ 1 c.if-was-eq1.true)

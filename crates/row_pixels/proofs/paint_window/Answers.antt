@@ -3,10 +3,6 @@ use Rattle.std.proofs.Common.{◌-◌, arith, rules}
 use Rattle.row_pixels.proofs.RowLaws.{Along, along-begins, along-next, row_ends, pixels-some}
 use Rattle.row_pixels.proofs.paint_window.Goals as goal
 
--- UNMAPPED same_length
--- same_length : tie.Need-same-length invariant-loop decreases-loop
--- same_length c = c.before.loop.invariant.done.fills.same_length
-
 pub loop-x-init : goal.loop-x-init
 loop-x-init c = along-begins _ _ _ _ c.requires.row_bound c.requires.window_part
 

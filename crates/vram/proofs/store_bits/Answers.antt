@@ -4,10 +4,6 @@ use Rattle.vram.proofs.StoredWord.{stored_at}
 use borrow.Author.Rules.{rules}
 use Rattle.vram.proofs.store_bits.Goals as goal
 
--- UNMAPPED same_length
--- same_length : tie.Need-same-length
--- same_length c = search rules
-
 pub returns : goal.returns
 unfolding word place
 returns c m e =

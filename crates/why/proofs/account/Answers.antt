@@ -19,13 +19,6 @@ use Rattle.why.proofs.account.Goals.{At-loop-vram}
 long : (c : At-loop-vram) → is_vram_length (length c.loop-vram.vram) ≡ true
 long c = ap is_vram_length c.loop-vram.invariant.vram-length ∙ c.requires.vram_value
 
--- UNMAPPED same_length
--- same_length : tie.Need-same-length invariant-loop decreases-loop
--- same_length c =
---     let at-note = c.before.before in
---     let at-loop = at-note.before.before.before.before in
---     ap length at-note.note2.ensures.leaves ∙ drawn-length _ _ ∙ at-loop.loop.invariant.vram-length
-
 pub loop-vram-init : goal.loop-vram-init
 loop-vram-init c = known-first _ _ _ (subst Running (sym c.launch-at.ensures) (launched-running c.args.regs))
 

@@ -17,14 +17,6 @@ use Rattle.why.proofs.pass.Goals.{At-loop-vram}
 long : (c : At-loop-vram) → is_vram_length (length c.loop-vram.vram) ≡ true
 long c = ap is_vram_length c.loop-vram.invariant.vram-length ∙ c.requires.vram_value
 
--- UNMAPPED same_length
--- same_length : tie.Need-same-length invariant-loop decreases-loop
--- same_length c = c.before.before.loop.invariant.vram-length
-
--- UNMAPPED same-length-2
--- same-length-2 : tie.Need-same-length-2 invariant-loop decreases-loop
--- same-length-2 c = c.before.before.before.before.loop.invariant.vram-length
-
 pub pass_inside-at-requires : goal.pass_inside-at-requires
 pass_inside-at-requires c =
     let on = sym c.last_step.ensures ∙ c.loop-vram-test.true in

@@ -15,18 +15,6 @@ use Rattle.why.proofs.pass_inside.Goals.{At-loop-at}
 long : (c : At-loop-at) → is_vram_length (length c.loop-at.vram) ≡ true
 long c = ap is_vram_length c.loop-at.invariant.vram-length ∙ c.requires.vram_value
 
--- UNMAPPED same_length
--- same_length : tie.Need-same-length invariant-loop decreases-loop
--- same_length c = c.before.before.loop.invariant.vram-length
-
--- UNMAPPED same-length-2
--- same-length-2 : tie.Need-same-length-2 invariant-loop decreases-loop
--- same-length-2 c = c.before.before.before.before.loop.invariant.vram-length
-
--- UNMAPPED same-length-3
--- same-length-3 : tie.Need-same-length-3 invariant-loop decreases-loop
--- same-length-3 c = c.before.before.before.before.before.before.loop.invariant.vram-length
-
 pub advance-at-requires : goal.advance-at-requires
 advance-at-requires c =
     record { running = c.loop-at.invariant.goes_on; e_value = inside-not-last _ (sym c.last_word.ensures ∙ c.if-last_word.false); }

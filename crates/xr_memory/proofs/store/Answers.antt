@@ -7,18 +7,6 @@ use Rattle.xr_memory.proofs.Parts.{tested, inside}
 use borrow.Author.Rules.{rules}
 use Rattle.xr_memory.proofs.store.Goals as goal
 
--- UNMAPPED same_length
--- same_length : tie.Need-same-length
--- same_length c = search rules
-
--- UNMAPPED same-length-2
--- same-length-2 : tie.Need-same-length-2
--- same-length-2 c = search rules
-
--- UNMAPPED same-length-3
--- same-length-3 : tie.Need-same-length-3
--- same-length-3 c = search rules
-
 pub overflow_sub-xr : goal.overflow_sub-xr
 overflow_sub-xr c = (inside 0x4000 5120 _ c.within.ensures c.if-within.true).0
 

@@ -8,12 +8,6 @@ use Rattle.xosera.specs.XrSpace.{xr_write}
 use Rattle.xosera.proofs.WordLaws.{◌takes◌, stored-adapter}
 use Rattle.xr_port.proofs.write.Goals as goal
 
--- UNMAPPED same_length
--- same_length : tie.Need-same-length
--- same_length c =
---     let at-s = c.before.before.before in
---     simp length-set at at-s.s.given
-
 pub returns : goal.returns
 unfolding state_at perform wrap
 returns c =
