@@ -40,8 +40,7 @@ DESTDIR :=
 WARN     := -Wall -Wextra -Wpedantic -Werror
 CFLAGS   := -std=c11 -O1 -gdwarf-4 $(WARN) -Iinclude
 CXXFLAGS := -std=c++17 -O1 -gdwarf-4 $(WARN) -Iinclude
-# With XOSERA_QUICK, by clang and under valgrind, the test that changes each byte of a file takes fewer values, and two of the beam
-# fewer lines.
+# With XOSERA_QUICK, under valgrind, the test that changes each byte of a file takes fewer values, and two of the beam fewer lines.
 VALGRIND := valgrind -q --error-exitcode=9 --leak-check=full --errors-for-leak-kinds=all
 SANITIZE := -fsanitize=address,undefined -fno-sanitize-recover=all
 
@@ -57,10 +56,10 @@ all: lib example
 
 lib: $(LIB)
 
-# rt names the archive after the crate. It proves crate firmware, in 12 s, and the crates below it that have changed.
-build/libxosera.a: $(shell find crates -type d -o -name '*.rt' -o -name '*.antt') crates.txt | build
-	rt staticlib firmware
-	cp target/staticlib/libfirmware.a $@
+# rt names the archive after the crate. It proves crate firmware, and the crates below it that have changed.
+build/libxosera.a: $(shell find crates -name out -prune -o \( -type d -o -name '*.rt' -o -name '*.antt' \) -print) crates.txt | build
+	cd crates/firmware && rt lib
+	cp crates/firmware/out/libfirmware.a $@
 
 example: build/cross
 	build/cross
@@ -105,7 +104,7 @@ test-plain: build/plain/tests
 	@$(call run_c,run-plain,,../plain/tests)
 test-clang: build/clang/tests
 	@printf 'by clang: '
-	@$(call run_c,run-clang,XOSERA_QUICK=1,../clang/tests)
+	@$(call run_c,run-clang,,../clang/tests)
 test-sanitized: build/sanitized/tests
 	@printf 'AddressSanitizer and UBSan: '
 	@$(call run_c,run-sanitized,,../sanitized/tests)

@@ -22,9 +22,9 @@ agree() { # a place, what it says, what it should say
 agree XOSERA_VERSION "$version" "$major.$minor.$patch"
 agree "CHANGELOG.md, newest version" "$(sed -n 's/^## \[\([0-9][^]]*\)\].*/\1/p' CHANGELOG.md | head -n 1)" "$version"
 agree "the library's symbol in include, crates, docs, README.md and tests" \
-    "$(grep -rhoE --exclude=run.sh 'xosera_header_needs_library_[0-9_]+' include crates docs README.md tests | sort -u)" "$symbol"
+    "$(grep -rhoE --exclude=run.sh --exclude-dir=out 'xosera_header_needs_library_[0-9_]+' include crates docs README.md tests | sort -u)" "$symbol"
 agree "crates/firmware, $symbol answers" \
-    "$(sed -n "/fn $symbol/,/^{/s/.*r ≡ \([0-9]*\) .*/\1/p" crates/firmware/src/lib.rt)" "$number"
+    "$(sed -n "/fn $symbol/,/^{/s/.*result ≡ \([0-9]*\) .*/\1/p" crates/firmware/src/lib.rt)" "$number"
 agree packaging/xosera.pc.in "$(sed -n 's/^Version: //p' packaging/xosera.pc.in)" @VERSION@
 agree packaging/XoseraConfigVersion.cmake.in \
     "$(sed -n 's/^set(PACKAGE_VERSION "\(.*\)")/\1/p' packaging/XoseraConfigVersion.cmake.in)" @VERSION@

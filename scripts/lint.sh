@@ -1,5 +1,5 @@
 #!/bin/sh
-# Formats and lints: versions, the old texts of edits, the table of levels, Rattle, C, Rust, shell, headers; stops at the first that is
+# Formats and lints: versions, the old texts of edits, the table of levels, C, Rust, shell, headers; stops at the first that is
 # not clean. Needs no library.
 # Installs what Debian has and this machine lacks.
 set -eu
@@ -26,7 +26,6 @@ clean() {
 scripts/check-version.sh
 clean scripts/check-edits.sh
 clean sh -c 'scripts/grey-levels.sh | diff crates/grey/src/levels.rt -'
-clean rt fmt --check
 clean find include examples tests \( -name '*.[ch]' -o -name '*.cpp' \) \
     -exec clang-format --dry-run -Werror {} +
 clean shellcheck -x .ci/run scripts/*.sh tests/*/*.sh
@@ -35,4 +34,4 @@ clean env -C tests/rust cargo clippy --quiet --all-targets -- -D warnings
 clean clang-tidy --quiet tests/install/program.c -- -std=c11 -Iinclude
 clean clang-tidy --quiet tests/install/program.cpp -- -std=c++17 -Iinclude
 clean make test-headers CC=clang CXX=clang++
-echo "lint: Rattle, C, Rust, shell and headers are clean"
+echo "lint: C, Rust, shell and headers are clean"

@@ -1,2 +1,3 @@
--- The bench table holds.
+-- The bench table and the examples hold.
 pub mod TableHolds
+pub mod ComputedTables

@@ -1,11 +1,11 @@
 -- The bench table holds: antt computes each row by itself, so that a row that is false is the one that an error shows.
 use mathlib.Core.Path.{refl}
 use Rattle.calls.proofs.ComputingCalls.{computing-calls}
-use Rattle.bench_rows.specs.BenchTable.{BenchTable}
+use Rattle.bench_rows.specs.BenchRows.{BenchRows}
 
-pub bench-table : BenchTable
+pub bench-rows : BenchRows
 unfolding computing-calls
-bench-table = record {
+bench-rows = record {
   shifted_copy = refl;
   constant_result = refl;
   colour_nibbles = refl;

@@ -1,2 +1,2 @@
-// The bench table as one statement about the definitions. The program bench_table runs it.
+// The bench table as statements about the definitions, and the further examples. The program bench_table runs the table.
 #![tactic(auto)]

@@ -4,17 +4,18 @@ use mathlib.Core.Bool.{Bool, true, false, not, ◌&&◌, and-eq-true_iff}
 use mathlib.Core.List.{List, map}
 use Prim.Native.Nat.{ℕ}
 use native.Mathlib.Omega.{arith}
-use lib.Dec.{eqb}
+use lib.Dec.{T, eqb}
 use lib.ListN.{get_or}
 use borrow.Author.Tests.{eqb-true, eqb-false, not-true}
 use Rattle.xosera.specs.Adapter.{Adapter}
 use Rattle.xosera.specs.Events.{Call, Event, Answer}
 use Rattle.calls.specs.Sequences.{Starts, words_of, after_all}
+use Rattle.bench_rows.proofs.ComputedTables.{all_same, all-equal}
 use Rattle.order.specs.Order.{Condition, but_bit6, Alike, blit_first}
 use Rattle.order.specs.Order.{enough_steps, starts_none, writes_none_read, writes_none_written, loads_none_written, copper_disabled}
 use Rattle.order.specs.Witness.{ready, begun}
 use Rattle.order.specs.Needed.{Case, copper_ready, broken, begun_for, Breaks, begun_twice, full_read, IdleNeeded, questions, clearing, MayDiffer}
-use Rattle.order.specs.Needed.{Needed, ClaimWords}
+use Rattle.order.specs.Needed.{Needed, claim_words, ClaimWords}
 use Rattle.order.proofs.ComputingOrder.{computing-order}
 use Rattle.order.proofs.ConditionTests.{all_conditions, conditions-tested, keeps-tested, others_tested, others-tested}
 
@@ -102,16 +103,9 @@ may-differ = record {
 pub needed : Needed
 needed = record { conditions = breaks; idle = idle-needed; exceptions = may-differ }
 
-pub claim-words : ClaimWords
+claim-words-computed : T (all_same claim_words)
 unfolding computing-order
-claim-words = record {
-  steps = refl;
-  others = refl;
-  bit-left-out = refl;
-  numbers = refl;
-  numbers-queued = refl;
-  answers = refl;
-  reads = refl;
-  writes = refl;
-  held = refl;
-}
+claim-words-computed = tt
+
+pub claim-words : ClaimWords
+claim-words = all-equal claim_words claim-words-computed

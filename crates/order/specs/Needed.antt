@@ -1,13 +1,14 @@
 -- No condition of demand 3 can be dropped, and no bit that may differ can be left in: for each condition one list that breaks it
 -- alone, and for each such bit one list that keeps all conditions, with what both orders come to.
-use Rattle.std.specs.Prelude.{◌≡◌, true, false, List, [], ◌∷◌, ◌++◌, map, ◌≢◌, ℕ, get_or, replicate}
+use Rattle.std.specs.Prelude.{◌≡◌, true, false, cond, List, [], ◌∷◌, ◌++◌, map, ◌≢◌, ℕ, get_or, replicate}
 use Rattle.xosera.specs.Words.{without_bit}
 use Rattle.xosera.specs.Adapter.{Adapter, with_beam}
-use Rattle.xosera.specs.Events.{Call, Event, write, read, tick, beam, line, call, step, run}
+use Rattle.xosera.specs.Events.{Event, write, read, tick, beam, line, call, step, run}
 use Rattle.calls.specs.Refusals.{refusal}
 use Rattle.calls.specs.Calls.{after}
-use Rattle.calls.specs.Sequences.{start_with, Starts, words_of, after_all, all_answers}
-use Rattle.xosera.specs.Sessions.{CTRL, SHIFT, WORDS, ◌is◌, set_word, set_xr, read_word, bench, values_of}
+use Rattle.calls.specs.Sequences.{start_with, Starts, words_of, after_all}
+use Rattle.xosera.specs.Sessions.{CTRL, SHIFT, WORDS, ◌is◌, set_word, set_xr, read_word, bench}
+use Rattle.bench_rows.specs.BenchTable.{told, Row, ◌gives◌}
 use Rattle.order.specs.Order.{steps_in, without_steps, blit_reads, blit_writes, Condition, Holds, Keeps, agreed, answered, Alike, blit_first}
 use Rattle.order.specs.Order.{enough_steps, starts_none, writes_none_read, writes_none_written, loads_none_written, copper_disabled}
 use Rattle.order.specs.Work.{agreed_work}
@@ -85,8 +86,8 @@ pub record IdleNeeded : Type 0 where
   pub words : not_idle.side.host.xr.wrxaddr.0 ≡ 0x49
   pub running : not_idle.engine.running ≡ 1
   pub keeps : Keeps (words_of begun_twice) begun_twice full_read
-  pub in_order : values_of (all_answers begun_twice full_read) ≡ 0x68 ∷ 6 ∷ []
-  pub blit-first : values_of (all_answers begun_twice (blit_first (words_of begun_twice) full_read)) ≡ replicate 6 1 ++ 0x28 ∷ []
+  pub in_order : told begun_twice full_read ≡ 0x68 ∷ 6 ∷ []
+  pub blit-first : told begun_twice (blit_first (words_of begun_twice) full_read) ≡ replicate 6 1 ++ 0x28 ∷ []
   pub not_alike : Alike agreed begun_twice full_read begun_twice (blit_first (words_of begun_twice) full_read) → ⊥
 
 -- What may differ does, with all conditions kept: bit 6 as read at 1, bit 13 as read at 0 and the line question's answer; and
@@ -99,8 +100,8 @@ clearing = set_word 1 0x4040 ++ run 6 ∷ []
 
 pub record MayDiffer : Type 0 where
   pub keeps : Keeps (words_of begun) begun questions
-  pub in_order : values_of (all_answers begun questions) ≡ 0 ∷ 0 ∷ 0 ∷ 0x28 ∷ 0 ∷ 6 ∷ []
-  pub blit-first : values_of (all_answers begun (blit_first (words_of begun) questions)) ≡ replicate 6 1 ++ 0 ∷ 0 ∷ 0x40 ∷ 0x08 ∷ 1 ∷ []
+  pub in_order : told begun questions ≡ 0 ∷ 0 ∷ 0 ∷ 0x28 ∷ 0 ∷ 6 ∷ []
+  pub blit-first : told begun (blit_first (words_of begun) questions) ≡ replicate 6 1 ++ 0 ∷ 0 ∷ 0x40 ∷ 0x08 ∷ 1 ∷ []
   pub keeps-clearing : Keeps (words_of begun) begun clearing
   pub set-in-order : (after_all begun clearing).status ≡ 0x40
   pub cleared-first : (after_all begun (blit_first (words_of begun) clearing)).status ≡ 0
@@ -112,19 +113,25 @@ pub record Needed : Type 0 where
   pub exceptions : MayDiffer
 
 -- The words of the claim, by example.
-pub record ClaimWords : Type 0 where
-  pub steps : steps_in (step ∷ run 5 ∷ call tick ∷ []) ≡ 6
-  pub others : values_of (all_answers (bench []) (without_steps (run 3 ∷ set_word 9 0x1234 ++ step ∷ read_word 9))) ≡ 0 ∷ 0 ∷ 0x12 ∷ 0x34 ∷ []
-  pub bit-left-out : without_bit 6 0xFF ∷ without_bit 6 0x3F ∷ without_bit 5 0xFF ∷ [] ≡ 0xBF ∷ 0x3F ∷ 0xDF ∷ []
-  -- The numbers of reads at 0 and 1 and of another one, of a write, a tick, a beam step and the line question.
-  pub numbers : map (λ (c : Call). agreed c 0xFF) (read 0 false ∷ read 0 true ∷ read 1 false ∷ read 1 true ∷ read 2 false ∷ read 2 true
-      ∷ write 1 true 0 ∷ tick ∷ beam ∷ line ∷ []) ≡ 0xDF ∷ 0xFF ∷ 0xFF ∷ 0xBF ∷ 0xFF ∷ 0xFF ∷ 0xFF ∷ 0xFF ∷ 0xFF ∷ 0 ∷ []
-  -- The same where a blit may be queued: the full bit too.
-  pub numbers-queued : map (λ (c : Call). agreed_work true c 0xFF) (read 0 false ∷ read 0 true ∷ read 1 true ∷ read 1 false ∷ write 0 true 0
-      ∷ tick ∷ beam ∷ []) ++ agreed_work false (read 0 false) 0xFF ∷ [] ≡ 0x9F ∷ 0xFF ∷ 0xBF ∷ 0xFF ∷ 0xFF ∷ 0xFF ∷ 0xFF ∷ 0xDF ∷ []
-  pub answers : (answered agreed begun (write 16 true 0)).refusal ∷ (answered agreed begun (read 4 true)).value
-      ∷ (answered agreed begun (write 10 true 0)).mask ∷ [] ≡ 4 ∷ 0x4A ∷ 0xF ∷ []
-  -- The words that the blit reads and writes; a constant reads none, and a word that is held back is not written.
-  pub reads : map (blit_reads 6 begun) (0x0F ∷ 0x10 ∷ 0x15 ∷ 0x16 ∷ []) ≡ false ∷ true ∷ true ∷ false ∷ []
-  pub writes : map (blit_writes 6 begun) (0x1F ∷ 0x20 ∷ 0x25 ∷ 0x26 ∷ []) ≡ false ∷ true ∷ true ∷ false ∷ []
-  pub held : blit_reads 1 constant_held 0 ∷ blit_writes 1 constant_held 0 ∷ [] ≡ false ∷ false ∷ []
+abbrev pub claim_words : List Row
+claim_words =
+    (steps_in (step ∷ run 5 ∷ call tick ∷ []) ∷ [] gives 6 ∷ [])
+    ∷ (told (bench []) (without_steps (run 3 ∷ set_word 9 0x1234 ++ step ∷ read_word 9)) gives 0 ∷ 0 ∷ 0x12 ∷ 0x34 ∷ [])
+    ∷ (without_bit 6 0xFF ∷ without_bit 6 0x3F ∷ without_bit 5 0xFF ∷ [] gives 0xBF ∷ 0x3F ∷ 0xDF ∷ [])
+    -- The numbers of reads at 0 and 1 and of another one, of a write, a tick, a beam step and the line question.
+    ∷ (agreed (read 0 false) 0xFF ∷ agreed (read 0 true) 0xFF ∷ agreed (read 1 false) 0xFF ∷ agreed (read 1 true) 0xFF ∷ agreed (read 2 false) 0xFF
+    ∷ agreed (read 2 true) 0xFF ∷ agreed (write 1 true 0) 0xFF ∷ agreed tick 0xFF ∷ agreed beam 0xFF ∷ agreed line 0xFF ∷ []
+    gives 0xDF ∷ 0xFF ∷ 0xFF ∷ 0xBF ∷ 0xFF ∷ 0xFF ∷ 0xFF ∷ 0xFF ∷ 0xFF ∷ 0 ∷ [])
+    ∷ (agreed_work true (read 0 false) 0xFF ∷ agreed_work true (read 0 true) 0xFF ∷ agreed_work true (read 1 true) 0xFF ∷ agreed_work true (read 1 false) 0xFF
+    ∷ agreed_work true (write 0 true 0) 0xFF ∷ agreed_work true tick 0xFF ∷ agreed_work true beam 0xFF ∷ agreed_work false (read 0 false) 0xFF ∷ []
+    gives 0x9F ∷ 0xFF ∷ 0xBF ∷ 0xFF ∷ 0xFF ∷ 0xFF ∷ 0xFF ∷ 0xDF ∷ [])
+    ∷ ((answered agreed begun (write 16 true 0)).refusal ∷ (answered agreed begun (read 4 true)).value ∷ (answered agreed begun (write 10 true 0)).mask ∷ []
+    gives 4 ∷ 0x4A ∷ 0xF ∷ [])
+    -- The words that the blit reads and writes; a constant reads none, and a word that is held back is not written.
+    ∷ (map (λ (w : ℕ). cond (blit_reads 6 begun w) 1 0) (0x0F ∷ 0x10 ∷ 0x15 ∷ 0x16 ∷ []) gives 0 ∷ 1 ∷ 1 ∷ 0 ∷ [])
+    ∷ (map (λ (w : ℕ). cond (blit_writes 6 begun w) 1 0) (0x1F ∷ 0x20 ∷ 0x25 ∷ 0x26 ∷ []) gives 0 ∷ 1 ∷ 1 ∷ 0 ∷ [])
+    ∷ (cond (blit_reads 1 constant_held 0) 1 0 ∷ cond (blit_writes 1 constant_held 0) 1 0 ∷ [] gives 0 ∷ 0 ∷ [])
+    ∷ []
+
+abbrev pub ClaimWords : Type 0
+ClaimWords = map (λ (r : Row). r.given) claim_words ≡ map (λ (r : Row). r.should) claim_words

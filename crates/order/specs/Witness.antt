@@ -6,8 +6,9 @@ use Rattle.xosera.specs.Blitter.{words_left}
 use Rattle.xosera.specs.Events.{Event, write, tick, beam, line, call, step, run}
 use Rattle.calls.specs.Refusals.{Fit}
 use Rattle.calls.specs.Calls.{after}
-use Rattle.calls.specs.Sequences.{Starts, start_with, words_of, after_all, all_answers}
-use Rattle.xosera.specs.Sessions.{SRCS, DSTD, SHIFT, LINES, WORDS, ◌is◌, set_word, read_word, bench, seen, values_of}
+use Rattle.calls.specs.Sequences.{Starts, start_with, words_of, after_all}
+use Rattle.xosera.specs.Sessions.{SRCS, DSTD, SHIFT, LINES, WORDS, ◌is◌, set_word, read_word, bench}
+use Rattle.bench_rows.specs.BenchTable.{seen, told}
 use Rattle.order.specs.Order.{AllCalls, Keeps}
 use Rattle.order.specs.Work.{call_tries}
 
@@ -34,9 +35,9 @@ pub record Witness : Type 0 where
   pub starts : Starts ready 2
   pub keeps : Keeps (words_of begun) begun between
   -- The blit draws its six words, the store beside it is made, and the loaded word is read.
-  pub drawn : seen 0x20 6 (after_all begun between) ≡ 0x1234 ∷ 0x5678 ∷ 0x9ABC ∷ 0xDEF0 ∷ 0x1111 ∷ 0x2222 ∷ []
-  pub stored : seen 0x80 1 (after_all begun between) ≡ 0xBEEF ∷ []
-  pub read_back : values_of (all_answers (after_all begun between) (read_word 10)) ≡ 0xBE ∷ 0xEF ∷ []
+  pub drawn : seen 0x20 6 begun between ≡ 0x1234 ∷ 0x5678 ∷ 0x9ABC ∷ 0xDEF0 ∷ 0x1111 ∷ 0x2222 ∷ []
+  pub stored : seen 0x80 1 begun between ≡ 0xBEEF ∷ []
+  pub read_back : told (after_all begun between) (read_word 10) ≡ 0xBE ∷ 0xEF ∷ []
 
 -- The same with a second blit of 2 lines of 2 words, to 0x40, queued behind the first.
 abbrev pub queued_up : Adapter
@@ -47,4 +48,4 @@ pub record QueuedWitness : Type 0 where
   pub full : queued_up.queued ≡ 1
   pub keeps : Keeps (words_left queued_up) queued_up between
   pub patient : AllCalls (λ a c. call_tries a c ≡ false) queued_up between
-  pub drawn : seen 0x40 4 (after_all queued_up between) ≡ 0x1234 ∷ 0x5678 ∷ 0x9ABC ∷ 0xDEF0 ∷ []
+  pub drawn : seen 0x40 4 queued_up between ≡ 0x1234 ∷ 0x5678 ∷ 0x9ABC ∷ 0xDEF0 ∷ []

@@ -1,17 +1,14 @@
 -- One word noted is one step of the account, and after the blit's last word the account is whole.
 use mathlib.Core.Path.{◌≡◌, refl, sym, ap, ap₂, subst, subst₂, ◌∙◌}
 use mathlib.Core.Bool.{Bool, true, false}
-use mathlib.Core.List.{List, [], ◌∷◌}
+use mathlib.Core.List.{List}
 use Prim.Native.Nat.{ℕ, suc}
 use native.Mathlib.Omega.{arith}
 use lib.Dec.{eqb}
-use denote.Enum.Declared.{tag_of}
-use types.Run.{OneOf, miss}
 use Rattle.xosera.specs.declared.BlitRegs.{BlitRegs}
 use Rattle.xosera.specs.declared.Engine.{Engine}
 use Rattle.reasons.specs.declared.Why.{Why}
 use Rattle.reasons.specs.declared.Why.TheVariants.{Refused, NeverReached, HeldBack, Written}
-use Rattle.reasons.specs.contracts.Why.{the_type}
 use lib.ListN.{length}
 use Rattle.xosera.specs.Memories.{is_vram_length, place, Pixel, from_right}
 use Rattle.xosera.specs.Adapter.{Adapter}

@@ -1,14 +1,12 @@
 -- The latch filled, or the word written.
 use mathlib.Core.Path.{refl}
-use borrow.Author.Tests.{not-true, not-false}
 use Rattle.xosera.specs.HostBytes.{write_byte}
-use borrow.Author.Rules.{rules}
 use Rattle.access.proofs.write.Goals as goal
 
 pub returns-then-not-odd : goal.returns-then-not-odd
 unfolding write_byte
 returns-then-not-odd c =
-    rw c.if-not-odd.true record { done = c.fill_latch.ensures c.args.vram.now c.args.xr.now; mask = refl; }
+    rw c.if-not-odd.true record { done = c.fill_latch.ensures c.args.vram.now c.args.xr.now; mask = refl }
 
 pub returns : goal.returns
 unfolding write_byte

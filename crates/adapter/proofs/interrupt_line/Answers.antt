@@ -13,7 +13,6 @@ use Rattle.xosera.specs.Acts.{act_of, done, given}
 use Rattle.refusals.proofs.RefusalOrder.{a-line, state-refusal}
 use Rattle.masks.proofs.AnsweredMasks.{call-wrote}
 use Rattle.calls.proofs.Promised.{refused, performed}
-use borrow.Author.Rules.{rules}
 use Rattle.adapter.proofs.interrupt_line.Goals as goal
 use Rattle.adapter.proofs.interrupt_line.Goals.{After-state_refusal-refusal}
 

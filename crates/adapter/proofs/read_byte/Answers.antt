@@ -27,18 +27,21 @@ fit : (c : Else-refusal-ne0) → Fit (here (goal.at.Else-refusal-ne0 c).After-re
 fit c = let a = c.args in read-fit (here (goal.at.Else-refusal-ne0 c).After-read_refusal-refusal) a.reg a.odd (accepted c)
 
 pub returns-then-refusal-ne0 : goal.returns-then-refusal-ne0
-returns-then-refusal-ne0 c = record { done = refused (here (goal.at.returns-then-refusal-ne0 c).After-read_refusal-refusal) (event (goal.at.returns-then-refusal-ne0 c).After-read_refusal-refusal) _ (tested (goal.at.returns-then-refusal-ne0 c).After-read_refusal-refusal) c.if-refusal-ne0.true; refused = λ _. refl; }
+returns-then-refusal-ne0 c = record { done = refused (here (goal.at.returns-then-refusal-ne0 c).After-read_refusal-refusal) (event (goal.at.returns-then-refusal-ne0 c).After-read_refusal-refusal) _ (tested (goal.at.returns-then-refusal-ne0 c).After-read_refusal-refusal) c.if-refusal-ne0.true; refused = λ _. refl }
 
 pub byte_read-byte-requires : goal.byte_read-byte-requires
-byte_read-byte-requires c = record { s_len = search rules; s_value = (fit (goal.at.byte_read-byte-requires c).Else-refusal-ne0).state; }
+byte_read-byte-requires c = record { s_len = search rules; s_value = (fit (goal.at.byte_read-byte-requires c).Else-refusal-ne0).state }
 
 pub read-requires : goal.read-requires
 read-requires c =
     let lent = fit (goal.at.read-requires c).Else-refusal-ne0 in
-    record { s_len = search rules; vram_value = lent.vram; xr_len = lent.xr; }
+    record { s_len = search rules; vram_value = lent.vram; xr_len = lent.xr }
 
 pub returns : goal.returns
 unfolding done act_of
 returns c =
-    let a = c.args in record { done = performed (here (goal.at.returns c).After-read_refusal-refusal) (event (goal.at.returns c).After-read_refusal-refusal) _ 0 _ (accepted (goal.at.returns c).Else-refusal-ne0) (c.byte_read-byte.ensures a.vram.now a.xr.now)
-          (sym (call-wrote (here (goal.at.returns c).After-read_refusal-refusal) (read a.reg a.odd))) c.read.ensures; refused = λ n. absurd (n refl); }
+    let a = c.args in record {
+      done = performed (here (goal.at.returns c).After-read_refusal-refusal) (event (goal.at.returns c).After-read_refusal-refusal) _ 0 _ (accepted (goal.at.returns c).Else-refusal-ne0) (c.byte_read-byte.ensures a.vram.now a.xr.now)
+          (sym (call-wrote (here (goal.at.returns c).After-read_refusal-refusal) (read a.reg a.odd))) c.read.ensures;
+      refused = λ n. absurd (n refl);
+    }

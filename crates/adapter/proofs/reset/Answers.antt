@@ -1,7 +1,6 @@
 -- All words 0 but two.
 use mathlib.Core.Path.{refl}
 use Rattle.xosera.specs.State.{state_at}
-use borrow.Author.Rules.{rules}
 use Rattle.adapter.proofs.reset.Goals as goal
 
 pub returns : goal.returns

@@ -27,13 +27,13 @@ accepted : (c : Else-refusal-ne0) → refusal (here (goal.at.Else-refusal-ne0 c)
 accepted c = sym (tested (goal.at.Else-refusal-ne0 c).After-write_refusal-refusal) ∙ c.if-refusal-ne0.false
 
 pub returns-then-refusal-ne0 : goal.returns-then-refusal-ne0
-returns-then-refusal-ne0 c = record { done = refused (here (goal.at.returns-then-refusal-ne0 c).After-write_refusal-refusal) (event (goal.at.returns-then-refusal-ne0 c).After-write_refusal-refusal) _ (tested (goal.at.returns-then-refusal-ne0 c).After-write_refusal-refusal) c.if-refusal-ne0.true; refused = λ _. refl; }
+returns-then-refusal-ne0 c = record { done = refused (here (goal.at.returns-then-refusal-ne0 c).After-write_refusal-refusal) (event (goal.at.returns-then-refusal-ne0 c).After-write_refusal-refusal) _ (tested (goal.at.returns-then-refusal-ne0 c).After-write_refusal-refusal) c.if-refusal-ne0.true; refused = λ _. refl }
 
 pub write-requires : goal.write-requires
 write-requires c =
     let a = c.args in
     let fit = write-fit (here (goal.at.write-requires c).After-write_refusal-refusal) a.reg a.odd a.byte (accepted (goal.at.write-requires c).Else-refusal-ne0) in
-    record { s_len = search rules; vram_value = fit.0.vram; xr_len = fit.0.xr; reg_bound = fit.1; reg_bound_2 = latch-byte (state_at a.s.now) a.reg fit.0.state; }
+    record { s_len = search rules; vram_value = fit.0.vram; xr_len = fit.0.xr; reg_bound = fit.1; reg_bound_2 = latch-byte (state_at a.s.now) a.reg fit.0.state }
 
 pub returns : goal.returns
 unfolding done act_of given wrote
@@ -42,4 +42,4 @@ returns c =
     let ok = accepted (goal.at.returns c).Else-refusal-ne0 in
     let four = write-mask-four (here (goal.at.returns c).After-write_refusal-refusal) a.reg a.odd a.byte (accepted-in-range (here (goal.at.returns c).After-write_refusal-refusal) (event (goal.at.returns c).After-write_refusal-refusal) ok) in
     let done = c.write.ensures in
-    record { done = performed (here (goal.at.returns c).After-write_refusal-refusal) (event (goal.at.returns c).After-write_refusal-refusal) 0 _ _ ok refl (byte_mask c.low_byte-mask.ensures done.mask four) done.done; refused = λ n. absurd (n refl); }
+    record { done = performed (here (goal.at.returns c).After-write_refusal-refusal) (event (goal.at.returns c).After-write_refusal-refusal) 0 _ _ ok refl (byte_mask c.low_byte-mask.ensures done.mask four) done.done; refused = λ n. absurd (n refl) }

@@ -24,16 +24,16 @@ accepted : (c : Else-refusal-ne0) → refusal (here (goal.at.Else-refusal-ne0 c)
 accepted c = sym (tested (goal.at.Else-refusal-ne0 c).After-lent_refusal-refusal) ∙ c.if-refusal-ne0.false
 
 pub returns-then-refusal-ne0 : goal.returns-then-refusal-ne0
-returns-then-refusal-ne0 c = record { done = refused (here (goal.at.returns-then-refusal-ne0 c).After-lent_refusal-refusal) (call beam) _ (tested (goal.at.returns-then-refusal-ne0 c).After-lent_refusal-refusal) c.if-refusal-ne0.true; refused = λ _. refl; }
+returns-then-refusal-ne0 c = record { done = refused (here (goal.at.returns-then-refusal-ne0 c).After-lent_refusal-refusal) (call beam) _ (tested (goal.at.returns-then-refusal-ne0 c).After-lent_refusal-refusal) c.if-refusal-ne0.true; refused = λ _. refl }
 
 pub beam_step-requires : goal.beam_step-requires
 beam_step-requires c =
     let fit = beam-fit (here (goal.at.beam_step-requires c).After-lent_refusal-refusal) (accepted (goal.at.beam_step-requires c).Else-refusal-ne0) in
-    record { s_len = search rules; xr_len = fit.xr; s_value = in-range-beam (state_of (here (goal.at.beam_step-requires c).After-lent_refusal-refusal)) fit.state; }
+    record { s_len = search rules; xr_len = fit.xr; s_value = in-range-beam (state_of (here (goal.at.beam_step-requires c).After-lent_refusal-refusal)) fit.state }
 
 pub returns : goal.returns
 unfolding done act_of given
 returns c =
     let a = here (goal.at.returns c).After-lent_refusal-refusal in
     let vram = c.args.vram.now in
-    record { done = performed a (call beam) 0 0 _ (accepted (goal.at.returns c).Else-refusal-ne0) refl (sym (call-wrote a beam)) (c.beam_step.ensures vram); refused = λ n. absurd (n refl); }
+    record { done = performed a (call beam) 0 0 _ (accepted (goal.at.returns c).Else-refusal-ne0) refl (sym (call-wrote a beam)) (c.beam_step.ensures vram); refused = λ n. absurd (n refl) }

@@ -27,12 +27,12 @@ accepted : (c : Else-refusal-ne0) → refusal (here (goal.at.Else-refusal-ne0 c)
 accepted c = sym (tested (goal.at.Else-refusal-ne0 c).After-lent_refusal-refusal) ∙ c.if-refusal-ne0.false
 
 pub returns-then-refusal-ne0 : goal.returns-then-refusal-ne0
-returns-then-refusal-ne0 c = record { done = refused (here (goal.at.returns-then-refusal-ne0 c).After-lent_refusal-refusal) (run c.args.n) _ (tested (goal.at.returns-then-refusal-ne0 c).After-lent_refusal-refusal) c.if-refusal-ne0.true; refused = λ _. refl; }
+returns-then-refusal-ne0 c = record { done = refused (here (goal.at.returns-then-refusal-ne0 c).After-lent_refusal-refusal) (run c.args.n) _ (tested (goal.at.returns-then-refusal-ne0 c).After-lent_refusal-refusal) c.if-refusal-ne0.true; refused = λ _. refl }
 
 pub run-done-requires : goal.run-done-requires
 run-done-requires c =
     let fit = run-fit (here (goal.at.run-done-requires c).After-lent_refusal-refusal) c.args.n (accepted (goal.at.run-done-requires c).Else-refusal-ne0) in
-    record { s_len = search rules; vram_value = fit.vram; s_value = fit.state; }
+    record { s_len = search rules; vram_value = fit.vram; s_value = fit.state }
 
 pub returns : goal.returns
 unfolding done given wrote
@@ -41,4 +41,4 @@ returns c =
     let told = c.run-done.ensures in
     let count = told.count a.xr.now in
     let mask = byte_mask c.low_byte-mask.ensures (told.mask a.xr.now ∙ ap (λ (k : ℕ). nth_mask k (here (goal.at.returns c).After-lent_refusal-refusal)) count)
-    (nth-mask-small _ (here (goal.at.returns c).After-lent_refusal-refusal)) in record { done = performed (here (goal.at.returns c).After-lent_refusal-refusal) (run a.n) _ _ _ (accepted (goal.at.returns c).Else-refusal-ne0) count mask (told.after a.xr.now); refused = λ n. absurd (n refl); }
+    (nth-mask-small _ (here (goal.at.returns c).After-lent_refusal-refusal)) in record { done = performed (here (goal.at.returns c).After-lent_refusal-refusal) (run a.n) _ _ _ (accepted (goal.at.returns c).Else-refusal-ne0) count mask (told.after a.xr.now); refused = λ n. absurd (n refl) }

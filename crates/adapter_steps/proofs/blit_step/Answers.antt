@@ -23,12 +23,12 @@ accepted : (c : Else-refusal-ne0) → refusal (here (goal.at.Else-refusal-ne0 c)
 accepted c = sym (tested (goal.at.Else-refusal-ne0 c).After-lent_refusal-refusal) ∙ c.if-refusal-ne0.false
 
 pub returns-then-refusal-ne0 : goal.returns-then-refusal-ne0
-returns-then-refusal-ne0 c = record { done = refused (here (goal.at.returns-then-refusal-ne0 c).After-lent_refusal-refusal) step _ (tested (goal.at.returns-then-refusal-ne0 c).After-lent_refusal-refusal) c.if-refusal-ne0.true; refused = λ _. refl; }
+returns-then-refusal-ne0 c = record { done = refused (here (goal.at.returns-then-refusal-ne0 c).After-lent_refusal-refusal) step _ (tested (goal.at.returns-then-refusal-ne0 c).After-lent_refusal-refusal) c.if-refusal-ne0.true; refused = λ _. refl }
 
 pub step-done-requires : goal.step-done-requires
 step-done-requires c =
     let fit = step-fit (here (goal.at.step-done-requires c).After-lent_refusal-refusal) (accepted (goal.at.step-done-requires c).Else-refusal-ne0) in
-    record { s_len = search rules; vram_value = fit.vram; s_value = fit.state; }
+    record { s_len = search rules; vram_value = fit.vram; s_value = fit.state }
 
 pub returns : goal.returns
 unfolding done given wrote
@@ -36,4 +36,4 @@ returns c =
     let x = c.args.xr.now in
     let told = c.step-done.ensures in
     let mask = byte_mask c.low_byte-mask.ensures (told.mask x) (step-mask-small (here (goal.at.returns c).After-lent_refusal-refusal)) in
-    record { done = performed (here (goal.at.returns c).After-lent_refusal-refusal) step _ _ _ (accepted (goal.at.returns c).Else-refusal-ne0) (told.count x) mask (told.after x); refused = λ n. absurd (n refl); }
+    record { done = performed (here (goal.at.returns c).After-lent_refusal-refusal) step _ _ _ (accepted (goal.at.returns c).Else-refusal-ne0) (told.count x) mask (told.after x); refused = λ n. absurd (n refl) }

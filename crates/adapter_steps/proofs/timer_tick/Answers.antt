@@ -10,7 +10,6 @@ use Rattle.xosera.specs.Acts.{act_of, done, given}
 use Rattle.refusals.proofs.RefusalOrder.{a-tick, state-refusal}
 use Rattle.masks.proofs.AnsweredMasks.{call-wrote}
 use Rattle.calls.proofs.Promised.{refused, performed}
-use borrow.Author.Rules.{rules}
 use Rattle.adapter_steps.proofs.timer_tick.Goals as goal
 use Rattle.adapter_steps.proofs.timer_tick.Goals.{After-state_refusal-refusal}
 
@@ -22,10 +21,13 @@ tested : (c : After-state_refusal-refusal) (v x : List ℕ) → c.state_refusal-
 tested c v x = c.state_refusal-refusal.ensures ∙ sym (state-refusal (state_at c.args.s.now) v x a-tick)
 
 pub returns-then-refusal-ne0 : goal.returns-then-refusal-ne0
-returns-then-refusal-ne0 c = record { done = λ v x. refused (here (goal.at.returns-then-refusal-ne0 c).After-state_refusal-refusal v x) (call tick) _ (tested (goal.at.returns-then-refusal-ne0 c).After-state_refusal-refusal v x) c.if-refusal-ne0.true; refused = λ _. refl; }
+returns-then-refusal-ne0 c = record { done = λ v x. refused (here (goal.at.returns-then-refusal-ne0 c).After-state_refusal-refusal v x) (call tick) _ (tested (goal.at.returns-then-refusal-ne0 c).After-state_refusal-refusal v x) c.if-refusal-ne0.true; refused = λ _. refl }
 
 pub returns : goal.returns
 unfolding done act_of given
 returns c =
-    record { done = λ v x. performed (here (goal.at.returns c).After-state_refusal-refusal v x) (call tick) 0 0 _ (sym (tested (goal.at.returns c).After-state_refusal-refusal v x) ∙ c.if-refusal-ne0.false) refl
-          (sym (call-wrote (here (goal.at.returns c).After-state_refusal-refusal v x) tick)) (c.tick.ensures v x); refused = λ n. absurd (n refl); }
+    record {
+      done = λ v x. performed (here (goal.at.returns c).After-state_refusal-refusal v x) (call tick) 0 0 _ (sym (tested (goal.at.returns c).After-state_refusal-refusal v x) ∙ c.if-refusal-ne0.false) refl
+          (sym (call-wrote (here (goal.at.returns c).After-state_refusal-refusal v x) tick)) (c.tick.ensures v x);
+      refused = λ n. absurd (n refl);
+    }

@@ -10,7 +10,6 @@ use Rattle.xosera.specs.Memories.{stored}
 use Rattle.xosera.specs.Plan.{changed, perform}
 use Rattle.xosera.proofs.BeamLaws.{beam-facts, past-reaches-none}
 use Rattle.xosera.proofs.WordLaws.{◌takes◌, stored-adapter}
-use borrow.Author.Rules.{rules}
 use Rattle.beam.proofs.arrive.Goals as goal
 
 pub overflow_add-position : goal.overflow_add-position

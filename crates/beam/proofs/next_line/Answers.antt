@@ -5,7 +5,6 @@ use Prim.Native.Nat.{◌+◌}
 use native.Mathlib.Omega.{arith}
 use borrow.Author.Tests.{eq-eqb, ne_eqb}
 use lib.Bits.{bit_or}
-use lib.ListN.{length-set}
 use Rattle.xosera.specs.State.{word_at, state_at}
 use Rattle.xosera.specs.Fields.{frame_ended}
 use Rattle.xosera.specs.Beam.{frame, next_line, reaches}
@@ -13,7 +12,6 @@ use Rattle.xosera.specs.Memories.{stored}
 use Rattle.xosera.specs.Plan.{changed, perform}
 use Rattle.xosera.proofs.BeamLaws.{beam-facts}
 use Rattle.xosera.proofs.WordLaws.{◌takes◌, stored-adapter}
-use borrow.Author.Rules.{rules}
 use Rattle.beam.proofs.next_line.Goals as goal
 
 pub overflow_add-line : goal.overflow_add-line

@@ -4,7 +4,6 @@ use Rattle.xosera.specs.State.{state_at}
 use Rattle.xosera.specs.Beam.{frame}
 use Rattle.xosera.specs.Copper.{pixel_reached}
 use Rattle.beam.proofs.Places.{same_line, other-line}
-use borrow.Author.Rules.{rules}
 use Rattle.beam.proofs.place_reached.Goals as goal
 
 pub returns-then-line-y : goal.returns-then-line-y

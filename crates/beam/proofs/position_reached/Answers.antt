@@ -2,7 +2,6 @@
 use mathlib.Core.Path.{sym, ◌∙◌}
 use Rattle.xosera.specs.State.{state_at}
 use Rattle.xosera.specs.Copper.{pixel_reached, line_reached, position_reached}
-use borrow.Author.Rules.{rules}
 use Rattle.beam.proofs.position_reached.Goals as goal
 
 pub returns-then-ignores_pixel : goal.returns-then-ignores_pixel

@@ -1,5 +1,5 @@
 -- The beam, then the copper if it runs.
-use Rattle.std.proofs.Common.{rules, eq-eqb, ne_eqb}
+use Rattle.std.proofs.Common.{eq-eqb, ne_eqb}
 use Rattle.xosera.specs.State.{state_at}
 use Rattle.xosera.specs.Adapter.{adapter_at}
 use Rattle.copper.proofs.CopperActs.{step-stopped, step-running}

@@ -1,5 +1,5 @@
 -- By the opcode of the first word.
-use Rattle.std.proofs.Common.{◌≡◌, ℕ, ◌+◌, false, sym, ap, ◌∙◌, rules}
+use Rattle.std.proofs.Common.{◌≡◌, ℕ, ◌+◌, false, sym, ap, ◌∙◌}
 use Rattle.xosera.specs.State.{word_at, state_at}
 use Rattle.xosera.specs.Fields.{opcode}
 use Rattle.xosera.specs.Copper.{program_at, instruction}

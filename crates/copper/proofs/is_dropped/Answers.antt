@@ -1,7 +1,5 @@
 -- Full and one of the ten.
-use borrow.Author.Tests.{not-true, not-false}
 use Rattle.xosera.specs.XrSpace.{is_blit_register}
-use Rattle.std.proofs.Common.{rules}
 use Rattle.copper.proofs.is_dropped.Goals as goal
 
 pub returns : goal.returns

@@ -1,5 +1,5 @@
 -- On by an instruction, then the store.
-use Rattle.std.proofs.Common.{Bool, ◌&&◌, ap, ◌∙◌, arith, rules}
+use Rattle.std.proofs.Common.{Bool, ◌&&◌, ap, ◌∙◌, arith}
 use mathlib.Core.Bool.{and-false}
 use Rattle.xosera.specs.State.{state_at}
 use Rattle.xosera.specs.XrSpace.{is_blit_register}

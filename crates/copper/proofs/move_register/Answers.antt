@@ -1,5 +1,5 @@
 -- On by an instruction, then the write, unless it is dropped.
-use Rattle.std.proofs.Common.{sym, ◌∙◌, rules}
+use Rattle.std.proofs.Common.{sym, ◌∙◌}
 use Rattle.xosera.specs.State.{state_at}
 use Rattle.xosera.specs.Adapter.{adapter_at}
 use Rattle.copper.proofs.CopperActs.{move-dropped, move-made}

@@ -1,5 +1,5 @@
 -- The word at its place.
-use Rattle.std.proofs.Common.{refl, rules}
+use Rattle.std.proofs.Common.{refl}
 use Rattle.xosera.specs.Copper.{program_at}
 use Rattle.copper.proofs.program_word.Goals as goal
 

@@ -1,5 +1,5 @@
 -- On by an instruction, or where it was.
-use Rattle.std.proofs.Common.{sym, ◌∙◌, rules}
+use Rattle.std.proofs.Common.{sym, ◌∙◌}
 use Rattle.xosera.specs.Memories.{stored}
 use Rattle.xosera.specs.Plan.{changed, perform}
 use Rattle.copper.proofs.wait.Goals as goal

@@ -1,7 +1,7 @@
 -- The counts have room, since the word is not the blit's last.
-use Rattle.std.proofs.Common.{sym, ◌∙◌, arith, rules}
+use Rattle.std.proofs.Common.{sym, ◌∙◌, arith}
 use Rattle.xosera.specs.Blitter.{next}
-use Rattle.xosera.proofs.EngineLaws.{word_more, line-more}
+use Rattle.xosera.proofs.EngineLaws.{word_more}
 use Rattle.engine.proofs.advance.Goals as goal
 
 pub returns-then-last_word : goal.returns-then-last_word

@@ -1,5 +1,5 @@
 -- Each part of the store as the definition has it.
-use Rattle.std.proofs.Common.{ap, ◌∙◌, rules}
+use Rattle.std.proofs.Common.{ap, ◌∙◌}
 use Rattle.xosera.specs.Blitter.{sourced, drawing, drawn}
 use Rattle.engine.proofs.draw.Goals as goal
 

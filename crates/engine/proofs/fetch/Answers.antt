@@ -1,5 +1,5 @@
 -- A constant takes none, VRAM gives the word at the source.
-use Rattle.std.proofs.Common.{sym, ◌∙◌, rules}
+use Rattle.std.proofs.Common.{sym, ◌∙◌}
 use Rattle.xosera.specs.Blitter.{fetched}
 use Rattle.engine.proofs.fetch.Goals as goal
 

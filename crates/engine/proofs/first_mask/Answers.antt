@@ -1,5 +1,5 @@
 -- By the test as it stands.
-use Rattle.std.proofs.Common.{rules, eq-eqb, ne_eqb}
+use Rattle.std.proofs.Common.{eq-eqb, ne_eqb}
 use Rattle.xosera.specs.Blitter.{first_mask}
 use Rattle.engine.proofs.first_mask.Goals as goal
 

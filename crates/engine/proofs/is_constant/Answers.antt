@@ -1,6 +1,5 @@
 -- CTRL bit 0.
 use Rattle.xosera.specs.Blitter.{is_constant}
-use Rattle.std.proofs.Common.{rules}
 use Rattle.engine.proofs.is_constant.Goals as goal
 
 pub returns : goal.returns

@@ -1,5 +1,5 @@
 -- By the test as it stands.
-use Rattle.std.proofs.Common.{sym, ◌∙◌, rules}
+use Rattle.std.proofs.Common.{sym, ◌∙◌}
 use Rattle.xosera.specs.Blitter.{last_mask}
 use Rattle.engine.proofs.last_mask.Goals as goal
 

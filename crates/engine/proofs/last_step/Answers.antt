@@ -1,5 +1,5 @@
 -- By the test as it stands.
-use Rattle.std.proofs.Common.{sym, ◌∙◌, rules}
+use Rattle.std.proofs.Common.{sym, ◌∙◌}
 use Rattle.xosera.specs.Blitter.{last_step}
 use Rattle.engine.proofs.last_step.Goals as goal
 

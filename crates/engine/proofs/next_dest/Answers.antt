@@ -1,5 +1,5 @@
 -- By whether the line ends.
-use Rattle.std.proofs.Common.{sym, ◌∙◌, rules}
+use Rattle.std.proofs.Common.{sym, ◌∙◌}
 use Rattle.xosera.specs.Words.{wrap}
 use Rattle.xosera.specs.Blitter.{next_dest}
 use Rattle.engine.proofs.next_dest.Goals as goal

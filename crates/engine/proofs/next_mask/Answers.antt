@@ -1,5 +1,5 @@
 -- The mask has four bits, so it comes back whole.
-use Rattle.std.proofs.Common.{◌≡◌, ◌%◌, ap, ◌∙◌, arith, rules}
+use Rattle.std.proofs.Common.{◌≡◌, ◌%◌, ap, ◌∙◌, arith}
 use Rattle.xosera.specs.Blitter.{sourced, write_mask, drawing}
 use Rattle.xosera.proofs.EngineLaws.{write-mask-small}
 use Rattle.engine.proofs.next_mask.Goals as goal

@@ -1,5 +1,5 @@
 -- By CTRL bit 0.
-use Rattle.std.proofs.Common.{sym, ◌∙◌, rules}
+use Rattle.std.proofs.Common.{sym, ◌∙◌}
 use Rattle.xosera.specs.Blitter.{sourced}
 use Rattle.engine.proofs.source.Goals as goal
 

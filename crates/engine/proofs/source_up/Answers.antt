@@ -1,5 +1,5 @@
 -- By CTRL bit 0.
-use Rattle.std.proofs.Common.{sym, ◌∙◌, rules}
+use Rattle.std.proofs.Common.{sym, ◌∙◌}
 use Rattle.xosera.specs.Words.{wrap}
 use Rattle.engine.proofs.source_up.Goals as goal
 

@@ -1,5 +1,5 @@
 -- By CTRL bit 4.
-use Rattle.std.proofs.Common.{sym, ◌∙◌, rules}
+use Rattle.std.proofs.Common.{sym, ◌∙◌}
 use Rattle.xosera.specs.Words.{bit}
 use Rattle.xosera.specs.Blitter.{test_mask}
 use Rattle.words.specs.Spread.{spread}

@@ -2,7 +2,6 @@
 use lib.Bits.{bit_and}
 use Rattle.xosera.specs.Blitter.{first_mask, last_mask, test_mask, write_mask}
 use Rattle.words.proofs.Nibbles.{spread-and}
-use Rattle.std.proofs.Common.{rules}
 use Rattle.engine.proofs.write_bits.Goals as goal
 
 pub returns : goal.returns

@@ -2,8 +2,7 @@
 -- and does one word at its edge; the blit's last word returns.
 use mathlib.Core.Path.{refl, sym, ◌∙◌}
 use native.Mathlib.Omega.{arith}
-use Rattle.engine_runs.specs.Progress.{Going}
-use Rattle.engine_runs.proofs.Runs.{going_start, going-trans, going-drawn, drawn-ended, ran-all, ran_over, long-enough}
+use Rattle.engine_runs.proofs.Runs.{going-trans, going-drawn, drawn-ended, ran_over}
 use Rattle.engine_runs.proofs.run_blit.Goals as goal
 
 pub returns-then-last_step : goal.returns-then-last_step

@@ -1,14 +1,12 @@
 -- The invariant: so many of the n steps are done, and the blit goes on. Each turn does one word inside a line.
 use mathlib.Core.Path.{sym, ◌∙◌}
-use native.Mathlib.Omega.{arith}
-use Rattle.engine_runs.specs.Progress.{Going}
 use Rattle.xosera.proofs.EngineLaws.{inside-not-last}
-use Rattle.engine_runs.proofs.Runs.{going_start, going-drawn, long-enough}
+use Rattle.engine_runs.proofs.Runs.{going-drawn}
 use Rattle.engine_runs.proofs.run_inside.Goals as goal
 
 pub advance-at-requires : goal.advance-at-requires
 advance-at-requires c =
-    record { running = c.loop-rest.invariant.goes_on; e_value = inside-not-last _ (sym c.last_word.ensures ∙ c.if-last_word.false); }
+    record { running = c.loop-rest.invariant.goes_on; e_value = inside-not-last _ (sym c.last_word.ensures ∙ c.if-last_word.false) }
 
 pub loop-rest-preserved : goal.loop-rest-preserved
 loop-rest-preserved c =

@@ -6,7 +6,6 @@ use Prim.Native.Nat.{◌+◌, ◌*◌, ◌-◌, ◌≤◌}
 use Rattle.xosera.specs.declared.Engine.{Engine}
 use Rattle.xosera.specs.Ranges.{Running}
 use Rattle.xosera.proofs.EngineLaws.{left-counts}
-use borrow.Author.Rules.{rules}
 use Rattle.engine_runs.proofs.words_left.Goals as goal
 
 -- The lines after this one have fewer than 32,768 times 65,536 words.

@@ -1,6 +1,5 @@
 -- Ten words.
 use Rattle.xosera.specs.State.{state_at}
-use borrow.Author.Rules.{rules}
 use Rattle.engine_words.proofs.blit_regs.Goals as goal
 
 pub returns : goal.returns

@@ -1,6 +1,5 @@
 -- Four words and ten.
 use Rattle.xosera.specs.State.{state_at}
-use borrow.Author.Rules.{rules}
 use Rattle.engine_words.proofs.engine_of.Goals as goal
 
 pub returns : goal.returns

@@ -3,9 +3,6 @@ use mathlib.Core.Path.{refl}
 use mathlib.Core.List.{[], ◌∷◌}
 use Rattle.xosera.specs.State.{state_at}
 use Rattle.xosera.proofs.WordLaws.{◌takes◌, stored-state}
-use lib.ListN.{length-set}
-use native.Mathlib.Omega.{arith}
-use borrow.Author.Rules.{rules}
 use Rattle.engine_words.proofs.move_on.Goals as goal
 
 pub returns : goal.returns

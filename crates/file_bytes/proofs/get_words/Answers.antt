@@ -1,12 +1,12 @@
 -- The invariant: the first i words are those of the bytes.
-use mathlib.Core.Path.{◌≡◌, refl, sym, ap, ap₂, ◌∙◌}
+use mathlib.Core.Path.{◌≡◌, sym, ap, ap₂, ◌∙◌}
 use mathlib.Core.List.{List}
-use Prim.Native.Nat.{ℕ, ◌-◌, ◌≤◌, ◌<◌}
+use Prim.Native.Nat.{ℕ, ◌<◌}
 use native.Mathlib.Omega.{arith}
 use lib.ListN.{length, set}
 use Rattle.saved_file.specs.SavedFile.{words_of}
 use Rattle.saved_file.proofs.ByteLaws.{words-length}
-use Rattle.xosera.proofs.FilledLists.{over, over-length, over-all}
+use Rattle.xosera.proofs.FilledLists.{over-length, over-all}
 use Rattle.file_bytes.proofs.CopyLaws.{get-next}
 use Rattle.file_bytes.proofs.get_words.Goals as goal
 use Rattle.file_bytes.proofs.get_words.Goals.{At-loop-i}

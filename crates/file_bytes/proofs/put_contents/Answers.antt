@@ -1,13 +1,12 @@
 -- The number of sections, then their entries one after another.
-use mathlib.Core.Path.{◌≡◌, refl, sym, ap, ◌∙◌}
+use mathlib.Core.Path.{◌≡◌, refl, ap, ◌∙◌}
 use mathlib.Core.List.{List, [], ◌∷◌, ◌++◌}
 use Prim.Native.Nat.{ℕ, suc}
 use native.Mathlib.Omega.{arith}
-use borrow.Author.Rules.{rules}
 use borrow.Rule.Slice.PartMut.{put_mid}
-use lib.ListN.{length, set, length-set}
+use lib.ListN.{length, set}
 use Rattle.saved_file.specs.SavedFile.{bytes_of, entry, entries, contents}
-use Rattle.file_bytes.proofs.RoomLaws.{laid, laid-first, laid-length, laid-whole, part-next}
+use Rattle.file_bytes.proofs.RoomLaws.{laid, laid-first, laid-whole, part-next}
 use Rattle.file_bytes.proofs.put_contents.Goals as goal
 use Rattle.file_bytes.proofs.put_contents.Goals.{After-slice_known-2-1, After-slice_known-3-1}
 

@@ -1,11 +1,9 @@
 -- The kind, then four words behind it.
-use mathlib.Core.Path.{◌≡◌, sym, ap, ◌∙◌}
+use mathlib.Core.Path.{◌≡◌, ap, ◌∙◌}
 use mathlib.Core.List.{List, [], ◌∷◌}
-use Prim.Native.Nat.{ℕ, suc, ◌/◌, ◌%◌}
-use native.Mathlib.Omega.{arith}
-use borrow.Author.Rules.{rules}
+use Prim.Native.Nat.{ℕ, ◌/◌, ◌%◌}
 use borrow.Rule.Slice.PartMut.{put_mid}
-use lib.ListN.{length, set, length-set}
+use lib.ListN.{length, set}
 use Rattle.saved_file.specs.SavedFile.{bytes_of, entry}
 use Rattle.saved_file.proofs.ByteLaws.{bytes-length}
 use Rattle.file_bytes.proofs.RoomLaws.{behind-first}

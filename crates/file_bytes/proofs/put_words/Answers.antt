@@ -1,12 +1,12 @@
 -- The invariant: two bytes for each of i words, and behind them what stood there.
-use mathlib.Core.Path.{◌≡◌, refl, sym, ap, ◌∙◌}
+use mathlib.Core.Path.{◌≡◌, ap, ◌∙◌}
 use mathlib.Core.List.{List}
-use Prim.Native.Nat.{ℕ, ◌+◌, ◌-◌, ◌*◌, ◌/◌, ◌%◌, ◌≤◌}
+use Prim.Native.Nat.{ℕ, ◌+◌, ◌*◌, ◌/◌, ◌%◌}
 use native.Mathlib.Omega.{arith}
 use lib.ListN.{length, get_or, set}
 use Rattle.saved_file.specs.SavedFile.{bytes_of}
 use Rattle.saved_file.proofs.ByteLaws.{bytes-length}
-use Rattle.xosera.proofs.FilledLists.{over, over-length, over-all}
+use Rattle.xosera.proofs.FilledLists.{over-length, over-all}
 use Rattle.file_bytes.proofs.CopyLaws.{put_next}
 use Rattle.file_bytes.proofs.put_words.Goals as goal
 use Rattle.file_bytes.proofs.put_words.Goals.{At-loop-i}

@@ -1,11 +1,11 @@
 -- The invariant: the first i bytes agree, and what is behind them decides.
 use mathlib.Core.Path.{◌≡◌, refl, sym, ◌∙◌}
 use mathlib.Core.Bool.{◌&&◌}
-use Prim.Native.Nat.{◌+◌, ◌-◌, ◌≤◌}
+use Prim.Native.Nat.{◌+◌}
 use native.Mathlib.Omega.{arith}
 use borrow.Author.Tests.{eq-eqb, ne_eqb}
 use lib.Dec.{eqb}
-use lib.ListN.{length, drop, get_or}
+use lib.ListN.{drop, get_or}
 use Rattle.saved_file.specs.SavedFile.{same_bytes}
 use Rattle.saved_file.proofs.SameLaws.{same_next, same_end}
 use Rattle.file_bytes.proofs.same.Goals as goal

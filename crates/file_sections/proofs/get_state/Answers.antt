@@ -3,8 +3,7 @@ use mathlib.Core.Path.{◌≡◌, ap, ap₂, ◌∙◌}
 use mathlib.Core.List.{List, ◌++◌, append-nil}
 use Prim.Native.Nat.{ℕ}
 use native.Mathlib.Omega.{arith}
-use borrow.Author.Rules.{rules}
-use lib.ListN.{length, drop, length-append, length-drop, length-set, drop_of_length-le}
+use lib.ListN.{length, drop, length-append, length-drop, drop_of_length-le}
 use lib.Seq.{take_at, sets-eq}
 use Rattle.xosera.specs.State.{state_words, beam_words}
 use Rattle.xosera.specs.Beam.{rest}
@@ -15,7 +14,6 @@ use Rattle.file_sections.proofs.get_state.Goals.{After-slice_known-2-1}
 
 -- The state when the words are read.
 module _ (c : After-slice_known-2-1) where
-
   abbrev read : List ℕ
   read = c.get_words.new.words
 

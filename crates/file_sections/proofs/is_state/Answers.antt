@@ -3,8 +3,6 @@ use mathlib.Core.Path.{◌≡◌, sym, ap, ◌∙◌}
 use mathlib.Core.Bool.{Bool, ◌&&◌, and-true}
 use mathlib.Core.List.{List}
 use Prim.Native.Nat.{ℕ}
-use borrow.Author.Rules.{rules}
-use borrow.Author.Tests.{not-true, not-false}
 use Rattle.xosera.specs.State.{State, Beam, state_at}
 use Rattle.xosera.specs.Beam.{frame, rest}
 use Rattle.xosera.specs.Ranges.{beam_in_range, copper_in_range, in_range}
@@ -23,7 +21,6 @@ rest-in-range s rests =
 
 -- The state that was read, and its tests.
 module _ (c : After-registers_in_range) where
-
   abbrev state : State
   state = state_at c.get_state.new.s
 

@@ -3,14 +3,12 @@ use mathlib.Core.Path.{◌≡◌, sym, ap, ap₂, ◌∙◌}
 use mathlib.Core.List.{List, ◌++◌}
 use Prim.Native.Nat.{ℕ, ◌+◌, ◌*◌, ◌-◌}
 use native.Mathlib.Omega.{arith}
-use borrow.Author.Rules.{rules}
 use lib.ListN.{length, take, drop}
 use lib.Seq.{length-take-le}
-use Rattle.xosera.specs.Adapter.{adapter_at}
-use Rattle.saved_file.specs.SavedFile.{bytes_of, saved}
+use Rattle.saved_file.specs.SavedFile.{bytes_of}
 use Rattle.saved_file.proofs.ByteLaws.{bytes-length}
-use Rattle.saved_file.proofs.SavedLaws.{contents_for, contents-length, state-bytes, xr-bytes, saved-words, saved-length}
-use Rattle.file_bytes.proofs.RoomLaws.{laid-length, four-parts}
+use Rattle.saved_file.proofs.SavedLaws.{contents_for, contents-length, state-bytes, xr-bytes, saved-words}
+use Rattle.file_bytes.proofs.RoomLaws.{four-parts}
 use Rattle.file_sections.proofs.put_file.Goals as goal
 
 pub returns : goal.returns

@@ -6,7 +6,6 @@ use native.Mathlib.Omega.{arith}
 use lib.ListN.{get_or}
 use Rattle.grey.specs.Grey.{grey_level}
 use Rattle.grey.proofs.ClaimsHold.{grey-claims}
-use borrow.Author.Rules.{rules}
 use Rattle.grey.proofs.grey.Goals as goal
 use Rattle.grey.proofs.grey.Goals.{After-words-2-1}
 

@@ -2,7 +2,6 @@
 use mathlib.Core.Path.{◌∙◌}
 use mathlib.Core.List.{map}
 use Rattle.grey.proofs.TableRule.{each_word}
-use borrow.Author.Rules.{rules}
 use Rattle.grey.proofs.grey_words.Goals as goal
 
 pub returns : goal.returns

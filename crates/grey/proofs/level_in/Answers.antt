@@ -2,7 +2,6 @@
 use native.Mathlib.Omega.{arith}
 use Rattle.xosera.proofs.Quotients.{nibble-at}
 use Rattle.grey.specs.LevelTable.{level_in}
-use borrow.Author.Rules.{rules}
 use Rattle.grey.proofs.level_in.Goals as goal
 
 pub returns : goal.returns

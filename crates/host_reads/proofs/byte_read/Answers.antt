@@ -1,6 +1,5 @@
 -- The odd byte or the even one.
 use Rattle.xosera.specs.Acts.{given}
-use borrow.Author.Rules.{rules}
 use Rattle.host_reads.proofs.byte_read.Goals as goal
 
 pub returns-then-odd : goal.returns-then-odd

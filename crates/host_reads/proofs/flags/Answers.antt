@@ -3,7 +3,6 @@ use native.Mathlib.Omega.{arith}
 use Rattle.xosera.specs.State.{state_at}
 use Rattle.xosera.specs.Fields.{flag_bits}
 use Rattle.xosera.specs.Beam.{h_blank, v_blank}
-use borrow.Author.Rules.{rules}
 use Rattle.host_reads.proofs.flags.Goals as goal
 
 pub returns : goal.returns

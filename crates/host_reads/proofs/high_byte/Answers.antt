@@ -5,7 +5,6 @@ use native.Mathlib.Omega.{arith}
 use Rattle.xosera.specs.State.{state_at}
 use Rattle.xosera.specs.HostBytes.{high_byte}
 use Rattle.host_reads.proofs.ReadTables.{past_three, bytes_of}
-use borrow.Author.Rules.{rules}
 use Rattle.host_reads.proofs.high_byte.Goals as goal
 
 pub returns-in-0 : goal.returns-in-0

@@ -5,7 +5,6 @@ use Rattle.xosera.proofs.Tables.{◌and◌, within-each}
 use Rattle.xosera.specs.State.{state_at}
 use Rattle.xosera.specs.HostBytes.{shown}
 use Rattle.host_reads.proofs.ReadTables.{unshown}
-use borrow.Author.Rules.{rules}
 use Rattle.host_reads.proofs.shown.Goals as goal
 
 pub returns-in-3 : goal.returns-in-3

@@ -1,7 +1,6 @@
 -- A store at one of sixteen places.
 use native.Mathlib.Omega.{arith}
 use Rattle.host_writes.proofs.Latches.{latch-filled}
-use borrow.Author.Rules.{rules}
 use Rattle.host_writes.proofs.fill_latch.Goals as goal
 
 pub returns : goal.returns

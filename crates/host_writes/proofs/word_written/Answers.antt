@@ -2,7 +2,6 @@
 use native.Mathlib.Omega.{arith}
 use Rattle.xosera.specs.HostBytes.{word_of}
 use Rattle.host_writes.proofs.Latches.{latch-at}
-use borrow.Author.Rules.{rules}
 use Rattle.host_writes.proofs.word_written.Goals as goal
 
 pub overflow_mul-result : goal.overflow_mul-result

@@ -7,7 +7,6 @@ use Rattle.xosera.specs.State.{word_at, state_at}
 use Rattle.xosera.specs.Memories.{stored}
 use Rattle.xosera.specs.Plan.{changed, perform}
 use Rattle.xosera.proofs.WordLaws.{◌takes◌, stored-adapter}
-use borrow.Author.Rules.{rules}
 use Rattle.host_writes.proofs.write_int_ctrl.Goals as goal
 
 pub returns : goal.returns

@@ -1,6 +1,5 @@
 -- Blank, then bitmap, then the depth.
-use Rattle.std.proofs.Common.{◌≡◌, true, false, sym, ◌∙◌, rules}
-use borrow.Author.Tests.{not-true, not-false}
+use Rattle.std.proofs.Common.{◌≡◌, true, false, sym, ◌∙◌}
 use Rattle.xosera.specs.Fields.{is_blank, is_bitmap}
 use Rattle.scanline.specs.PaintCall.{not_paintable}
 use Rattle.paint.proofs.not_paintable.Goals as goal

@@ -1,5 +1,5 @@
 -- Refused by 1 to 3, then by 11 to 13, or the line is painted.
-use Rattle.std.proofs.Common.{ℕ, List, sym, refl, ◌∙◌, rules}
+use Rattle.std.proofs.Common.{ℕ, List, sym, refl, ◌∙◌}
 use Rattle.xosera.specs.State.{state_at}
 use Rattle.refusals.proofs.RefusalOrder.{passed-fit}
 use Rattle.scanline.proofs.RefusalOrder.{none-applies}
@@ -9,7 +9,6 @@ use Rattle.paint.proofs.paint.Goals.{After-lent_refusal-lent}
 
 -- The call.
 module _ (c : After-lent_refusal-lent) where
-
   abbrev words : List ℕ
   words = c.args.s.now
 
@@ -34,7 +33,7 @@ returns-then-refusal-ne0 c =
 pub paint_line-requires : goal.paint_line-requires
 paint_line-requires c =
     let fit = passed-fit (state_at (words (goal.at.paint_line-requires c).After-lent_refusal-lent)) (vram (goal.at.paint_line-requires c).After-lent_refusal-lent) (xr (goal.at.paint_line-requires c).After-lent_refusal-lent) refl refl c.lent_refusal-lent.ensures c.if-lent-ne0.false in
-    record { vram_value = fit.vram; xr_len = fit.xr; line_bound = (none-applies _ _ _ (sym c.paint_refusal-refusal.ensures ∙ c.if-refusal-ne0.false)).0; }
+    record { vram_value = fit.vram; xr_len = fit.xr; line_bound = (none-applies _ _ _ (sym c.paint_refusal-refusal.ensures ∙ c.if-refusal-ne0.false)).0 }
 
 pub returns : goal.returns
 returns c =

@@ -1,5 +1,5 @@
 -- One colour from end to end.
-use Rattle.std.proofs.Common.{ℕ, get_or, refl, ap, ◌∙◌, rules}
+use Rattle.std.proofs.Common.{ℕ, get_or, refl, ap, ◌∙◌}
 use lib.Bits.{bit_xor}
 use Rattle.row_pixels.proofs.FillLaws.{fills_same, fills-all}
 use Rattle.paint.proofs.paint_blank.Goals as goal

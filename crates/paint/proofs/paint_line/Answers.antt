@@ -1,6 +1,5 @@
 -- Blank or not, by the first half of colour memory.
-use Rattle.std.proofs.Common.{sym, ◌∙◌, arith, rules}
-use borrow.Rule.Slice.PartMut.{mid_len}
+use Rattle.std.proofs.Common.{sym, ◌∙◌, arith}
 use Rattle.paint.proofs.LinePainted.{half-painted, blank-painted}
 use Rattle.paint.proofs.paint_line.Goals as goal
 

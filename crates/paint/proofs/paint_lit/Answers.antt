@@ -1,6 +1,6 @@
 -- Border, window and border.
-use Rattle.std.proofs.Common.{min, sym, refl, ap, ◌∙◌, rules}
-use Rattle.paint.proofs.LinePainted.{window-part, line-painted}
+use Rattle.std.proofs.Common.{refl}
+use Rattle.paint.proofs.LinePainted.{line-painted}
 use Rattle.paint.proofs.paint_lit.Goals as goal
 
 pub returns : goal.returns

@@ -1,5 +1,5 @@
 -- Test by test.
-use Rattle.std.proofs.Common.{sym, refl, ◌∙◌, rules}
+use Rattle.std.proofs.Common.{sym, refl, ◌∙◌}
 use Rattle.calls.specs.Refusals.{first}
 use Rattle.scanline.proofs.RefusalOrder.{line-visible, line-hidden, width-right, width-wrong, tests-given}
 use Rattle.paint.proofs.paint_refusal.Goals as goal

@@ -1,7 +1,6 @@
 -- Word by word.
 use Rattle.xosera.specs.State.{state_at}
 use Rattle.scanline.specs.Scanline.{playfield_a}
-use Rattle.std.proofs.Common.{rules}
 use Rattle.paint.proofs.playfield_a.Goals as goal
 
 pub returns : goal.returns

@@ -1,5 +1,5 @@
 -- The row's number is at most the line's, so that no product reaches 2 ^ 32; and a sum may be cut before it is wrapped.
-use Rattle.std.proofs.Common.{◌≡◌, ℕ, ◌+◌, ◌*◌, ◌/◌, ◌%◌, ◌<◌, ◌≤◌, mul-le-mul, div-le_self, arith, rules}
+use Rattle.std.proofs.Common.{◌≡◌, ℕ, ◌+◌, ◌*◌, ◌/◌, ◌%◌, ◌<◌, ◌≤◌, mul-le-mul, div-le_self, arith}
 use Rattle.xosera.specs.Words.{wrap}
 use Rattle.scanline.specs.Scanline.{row_start}
 use Rattle.paint.proofs.row_start.Goals as goal

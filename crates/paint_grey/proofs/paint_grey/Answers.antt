@@ -1,7 +1,6 @@
 -- Refused as the painting is, or each word of the painted line is taken to its level.
 use mathlib.Core.List.{List}
 use Prim.Native.Nat.{ℕ}
-use borrow.Author.Rules.{rules}
 use Rattle.xosera.specs.Adapter.{Adapter, adapter_at}
 use Rattle.paint_grey.proofs.Promised.{grey-refused, grey-done}
 use Rattle.paint_grey.proofs.paint_grey.Goals as goal
@@ -9,7 +8,6 @@ use Rattle.paint_grey.proofs.paint_grey.Goals.{After-paint-answer}
 
 -- The call.
 module _ (c : After-paint-answer) where
-
   abbrev lent : Adapter
   lent = adapter_at c.args.s.now c.args.vram.now c.args.xr.now
 

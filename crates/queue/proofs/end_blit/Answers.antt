@@ -1,8 +1,6 @@
 -- Two stores and the next engine.
-use lib.ListN.{length-set}
 use Rattle.xosera.specs.State.{state_at}
 use Rattle.queue.proofs.Starts.{end-stored}
-use borrow.Author.Rules.{rules}
 use Rattle.queue.proofs.end_blit.Goals as goal
 
 pub returns : goal.returns

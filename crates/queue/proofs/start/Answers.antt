@@ -1,10 +1,8 @@
 -- Queued while the engine runs, launched where it does not.
 use mathlib.Core.Path.{ap, ◌∙◌}
 use borrow.Author.Tests.{eq-eqb, ne_eqb}
-use lib.ListN.{length-set}
 use Rattle.xosera.specs.Blitter.{launched}
 use Rattle.queue.proofs.Starts.{start-queues, start-launches}
-use borrow.Author.Rules.{rules}
 use Rattle.queue.proofs.start.Goals as goal
 
 pub returns-then-was-eq1 : goal.returns-then-was-eq1

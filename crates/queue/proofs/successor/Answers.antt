@@ -4,7 +4,6 @@ use borrow.Author.Tests.{eq-eqb, ne_eqb}
 use Rattle.xosera.specs.State.{state_at}
 use Rattle.xosera.specs.Blitter.{launched, succeeding}
 use Rattle.xosera.proofs.Branches.{cond_yes, cond_no}
-use borrow.Author.Rules.{rules}
 use Rattle.queue.proofs.successor.Goals as goal
 
 pub returns-then-s-eq1 : goal.returns-then-s-eq1

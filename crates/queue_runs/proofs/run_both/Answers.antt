@@ -1,8 +1,5 @@
 -- The running blit, then what is left of the steps on the queued one.
-use mathlib.Core.Path.{◌∙◌}
-use Rattle.engine_runs.proofs.Runs.{long-enough}
 use Rattle.queue_runs.proofs.TwoBlits.{none_over, run-reached}
-use borrow.Author.Rules.{rules}
 use Rattle.queue_runs.proofs.run_both.Goals as goal
 
 pub returns-then-rest-eq0 : goal.returns-then-rest-eq0

@@ -7,7 +7,6 @@ use Rattle.xosera.specs.Ranges.{Running}
 use Rattle.xosera.proofs.RangeLaws.{in-range-runs}
 use Rattle.queue_runs.proofs.OneBlitLaws.{one-idle, one-over, one-going}
 use Rattle.queue.proofs.OneStep.{running, idle}
-use borrow.Author.Rules.{rules}
 use Rattle.queue_runs.proofs.run_one.Goals as goal
 
 pub returns-then-e-ne1 : goal.returns-then-e-ne1
@@ -20,7 +19,7 @@ pub run_blit-ran-requires : goal.run_blit-ran-requires
 run_blit-ran-requires c =
     let s = state_at c.args.s.now in
     let on = running s c.args.vram.now c.engine_of-e.ensures c.if-e-ne1.false in
-    record { vram_value = c.requires.vram_value; running = subst Running (sym c.engine_of-e.ensures) (in-range-runs s c.requires.s_value on); }
+    record { vram_value = c.requires.vram_value; running = subst Running (sym c.engine_of-e.ensures) (in-range-runs s c.requires.s_value on) }
 
 pub returns-then-ran : goal.returns-then-ran
 returns-then-ran c =

@@ -13,7 +13,6 @@ use Rattle.xosera.proofs.EngineLaws.{launched-running, launched-left}
 use Rattle.xosera.proofs.RangeLaws.{in-range-runs}
 use Rattle.xosera.proofs.StepLaws.{idle-none-left}
 use Rattle.queue.proofs.OneStep.{running, idle}
-use borrow.Author.Rules.{rules}
 use Rattle.queue_runs.proofs.words_left.Goals as goal
 use Rattle.queue_runs.proofs.words_left.Goals.{After-engine_of-e, After-words_left-left}
 

@@ -3,7 +3,6 @@ use borrow.Author.Tests.{lt-ltb, le-ltb}
 use Rattle.xosera.specs.State.{state_at}
 use Rattle.xosera.specs.Ranges.{beam_in_range}
 use Rattle.ranges.specs.RangeParts.{beam_copper_in_range}
-use borrow.Author.Rules.{rules}
 use Rattle.ranges.proofs.beam_in_range.Goals as goal
 
 pub returns-then-s-ge-FRAME_LINES : goal.returns-then-s-ge-FRAME_LINES

@@ -2,7 +2,6 @@
 use borrow.Author.Tests.{lt-leb, le-leb}
 use Rattle.xosera.specs.State.{state_at}
 use Rattle.ranges.specs.RangeParts.{blitter_in_range}
-use borrow.Author.Rules.{rules}
 use Rattle.ranges.proofs.blitter_in_range.Goals as goal
 
 pub returns-then-s : goal.returns-then-s

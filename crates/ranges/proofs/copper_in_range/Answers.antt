@@ -1,9 +1,8 @@
 -- A running copper, one with a flag over 1, and a stopped one.
 use mathlib.Core.Path.{sym, ◌∙◌}
-use borrow.Author.Tests.{eq-eqb, ne_eqb, not-true, not-false}
+use borrow.Author.Tests.{eq-eqb, ne_eqb}
 use Rattle.xosera.specs.State.{state_at}
 use Rattle.xosera.specs.Ranges.{copper_in_range}
-use borrow.Author.Rules.{rules}
 use Rattle.ranges.proofs.copper_in_range.Goals as goal
 
 pub returns-then-not-copper_enabled : goal.returns-then-not-copper_enabled

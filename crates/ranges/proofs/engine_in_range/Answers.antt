@@ -4,7 +4,6 @@ use borrow.Author.Tests.{eq-eqb, ne_eqb}
 use Rattle.xosera.specs.State.{state_at}
 use Rattle.xosera.specs.Ranges.{engine_in_range}
 use Rattle.xosera.proofs.Branches.{cond_yes, cond_no}
-use borrow.Author.Rules.{rules}
 use Rattle.ranges.proofs.engine_in_range.Goals as goal
 
 pub returns-then-s-eq1 : goal.returns-then-s-eq1

@@ -1,7 +1,5 @@
 -- No high byte where the words are bytes.
 use Rattle.ranges.proofs.LaneTests.{lanes_bytes}
-use borrow.Author.Rules.{rules}
-use Rattle.ranges.proofs.four.Reads as four-reads
 use Rattle.ranges.proofs.high_bytes.Goals as goal
 
 pub returns : goal.returns

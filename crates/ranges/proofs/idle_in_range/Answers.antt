@@ -7,8 +7,6 @@ use lib.Dec.{eqb}
 use Rattle.xosera.specs.State.{word_at, state_at}
 use Rattle.xosera.specs.Ranges.{is_no_regs, idle_in_range}
 use Rattle.ranges.proofs.LaneTests.{lanes-are-none, four-none, grouped}
-use borrow.Author.Rules.{rules}
-use Rattle.ranges.proofs.four.Reads as four-reads
 use Rattle.ranges.proofs.idle_in_range.Goals as goal
 
 -- Whether a word is 0.

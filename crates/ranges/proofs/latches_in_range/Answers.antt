@@ -3,8 +3,6 @@ use mathlib.Core.Path.{ap₂, ◌∙◌}
 use mathlib.Core.Bool.{◌&&◌}
 use Rattle.xosera.specs.State.{words_from, word_at, state_at}
 use Rattle.ranges.proofs.LaneTests.{four-none, bytes-append}
-use borrow.Author.Rules.{rules}
-use Rattle.ranges.proofs.high_bytes.Reads as high-bytes-reads
 use Rattle.ranges.proofs.latches_in_range.Goals as goal
 
 pub returns : goal.returns

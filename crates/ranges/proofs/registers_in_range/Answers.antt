@@ -1,12 +1,11 @@
 -- Each answer is the definition's, by the tests on its way.
 use mathlib.Core.Path.{◌≡◌, sym, ◌∙◌}
 use mathlib.Core.Bool.{true, ◌&&◌}
-use borrow.Author.Tests.{not-true, not-false, lt-leb, le-leb}
+use borrow.Author.Tests.{lt-leb, le-leb}
 use lib.Dec.{leb}
 use Rattle.xosera.specs.State.{Host, state_at}
 use Rattle.xosera.specs.Ranges.{timer_in_range, host_in_range}
 use Rattle.ranges.specs.RangeParts.{registers_in_range}
-use borrow.Author.Rules.{rules}
 use Rattle.ranges.proofs.registers_in_range.Goals as goal
 use Rattle.ranges.proofs.registers_in_range.Goals.{Else-not-latches_in_range, Else-not-timer_in_range, Else-s-gt127, Else-s-gt255}
 

@@ -3,7 +3,6 @@ use Rattle.xosera.specs.State.{state_at}
 use Rattle.xosera.specs.Blitter.{first_step}
 use Rattle.xosera.specs.Ranges.{starts_empty, running_in_range}
 use Rattle.ranges.proofs.RangeTests.{tests, too-many-lines}
-use borrow.Author.Rules.{rules}
 use Rattle.ranges.proofs.running_in_range.Goals as goal
 
 pub returns-then-s-gt32767 : goal.returns-then-s-gt32767

@@ -2,7 +2,6 @@
 use Rattle.xosera.specs.State.{state_at}
 use Rattle.xosera.specs.Ranges.{timer_in_range}
 use Rattle.ranges.proofs.RangeTests.{at-interval, stopped-short, below-interval}
-use borrow.Author.Rules.{rules}
 use Rattle.ranges.proofs.timer_in_range.Goals as goal
 
 pub returns-then-s : goal.returns-then-s

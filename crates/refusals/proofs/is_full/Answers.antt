@@ -1,9 +1,7 @@
 -- By the address, then by the flag.
 use mathlib.Core.Path.{sym, ◌∙◌}
-use borrow.Author.Tests.{not-true, not-false}
 use Rattle.xosera.specs.State.{state_at}
 use Rattle.xosera.specs.XrSpace.{is_blit_register}
-use borrow.Author.Rules.{rules}
 use Rattle.refusals.proofs.is_full.Goals as goal
 
 pub returns-then-not-within : goal.returns-then-not-within

@@ -1,10 +1,9 @@
 -- By the tests in their order.
 use mathlib.Core.Path.{sym, ◌∙◌}
-use borrow.Author.Tests.{not-true, not-false, eq-eqb, ne_eqb}
+use borrow.Author.Tests.{eq-eqb, ne_eqb}
 use Rattle.xosera.specs.Memories.{is_xr_length}
 use Rattle.calls.specs.Refusals.{first}
 use Rattle.refusals.specs.Tested.{lengths_refusal}
-use borrow.Author.Rules.{rules}
 use Rattle.refusals.proofs.lengths_refusal.Goals as goal
 
 pub returns-then-not-is_vram_length : goal.returns-then-not-is_vram_length

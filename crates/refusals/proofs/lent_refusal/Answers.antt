@@ -2,7 +2,6 @@
 use mathlib.Core.Path.{◌∙◌}
 use Rattle.xosera.specs.State.{state_at}
 use Rattle.refusals.proofs.RefusalOrder.{lengths-first, lengths-passed}
-use borrow.Author.Rules.{rules}
 use Rattle.refusals.proofs.lent_refusal.Goals as goal
 
 pub returns-then-lengths-ne0 : goal.returns-then-lengths-ne0

@@ -7,7 +7,6 @@ use borrow.Author.Tests.{eq-eqb, ne_eqb}
 use Rattle.xosera.specs.Fields.{is_reconfigure}
 use Rattle.xosera.specs.Adapter.{adapter_at}
 use Rattle.calls.specs.Refusals.{blitter_full, reconfigures, ◌when◌, first}
-use borrow.Author.Rules.{rules}
 use Rattle.refusals.proofs.odd_refusal.Goals as goal
 use Rattle.refusals.proofs.odd_refusal.Goals.{After-is_reconfigure}
 

@@ -2,7 +2,6 @@
 use native.Mathlib.Omega.{arith}
 use Rattle.xosera.specs.State.{state_at}
 use Rattle.refusals.proofs.RefusalOrder.{read_first, read-over, read_done}
-use borrow.Author.Rules.{rules}
 use Rattle.refusals.proofs.read_refusal.Goals as goal
 
 pub returns-then-lent-ne0 : goal.returns-then-lent-ne0

@@ -1,13 +1,11 @@
 -- The registers, then beam and copper, then the blitter.
 use mathlib.Core.Path.{◌≡◌, sym, ◌∙◌}
 use mathlib.Core.Bool.{and-false, and-true}
-use borrow.Author.Tests.{not-true, not-false}
 use Rattle.xosera.specs.State.{state_at}
 use Rattle.xosera.specs.Ranges.{in_range}
 use Rattle.calls.specs.Refusals.{first}
 use Rattle.ranges.specs.RangeParts.{blitter_in_range}
 use Rattle.ranges.proofs.AllParts.{range-parts}
-use borrow.Author.Rules.{rules}
 use Rattle.refusals.proofs.state_refusal.Goals as goal
 use Rattle.refusals.proofs.state_refusal.Goals.{After-blitter_in_range}
 

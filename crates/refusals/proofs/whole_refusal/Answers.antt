@@ -1,12 +1,10 @@
 -- Beam and copper, then the rest.
 use mathlib.Core.Path.{sym, ◌∙◌}
 use mathlib.Core.Bool.{◌&&◌, and-false}
-use borrow.Author.Tests.{not-true, not-false}
 use Rattle.xosera.specs.State.{state_at}
 use Rattle.calls.specs.Refusals.{first}
 use Rattle.ranges.specs.RangeParts.{registers_in_range, blitter_in_range}
 use Rattle.ranges.proofs.AllParts.{range-parts}
-use borrow.Author.Rules.{rules}
 use Rattle.refusals.proofs.whole_refusal.Goals as goal
 
 pub returns-then-not-beam_in_range : goal.returns-then-not-beam_in_range

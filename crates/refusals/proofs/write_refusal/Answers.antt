@@ -1,12 +1,10 @@
 -- 1 to 3, then 4, then those of an odd write.
 use mathlib.Core.Path.{◌≡◌, sym, ◌∙◌}
 use native.Mathlib.Omega.{arith}
-use borrow.Author.Tests.{not-true, not-false}
 use Rattle.xosera.specs.State.{state_at}
 use Rattle.refusals.specs.Tested.{lent_refusal}
 use Rattle.xosera.proofs.RangeLaws.{latch-byte}
 use Rattle.refusals.proofs.RefusalOrder.{lengths-first, lengths-passed, write-first, write-over, write-even, write-odd, lent-in-range}
-use borrow.Author.Rules.{rules}
 use Rattle.refusals.proofs.write_refusal.Goals as goal
 use Rattle.refusals.proofs.write_refusal.Goals.{After-whole_refusal-state}
 
@@ -43,7 +41,7 @@ pub odd_refusal-requires : goal.odd_refusal-requires
 odd_refusal-requires c =
     let r = c.args in
     let s = state_at r.s.now in
-    record { reg_bound = omega (arith, c.if-reg-gt15.false); reg_bound_2 = latch-byte s r.reg (lent-in-range r.vram r.xr s (sym (lent (goal.at.odd_refusal-requires c).After-whole_refusal-state) ∙ c.if-state-ne0.false)); }
+    record { reg_bound = omega (arith, c.if-reg-gt15.false); reg_bound_2 = latch-byte s r.reg (lent-in-range r.vram r.xr s (sym (lent (goal.at.odd_refusal-requires c).After-whole_refusal-state) ∙ c.if-state-ne0.false)) }
 
 pub returns : goal.returns
 returns c =

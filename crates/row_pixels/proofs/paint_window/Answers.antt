@@ -1,6 +1,6 @@
 -- Word by word, up to the window's end.
-use Rattle.std.proofs.Common.{◌-◌, arith, rules}
-use Rattle.row_pixels.proofs.RowLaws.{Along, along-begins, along-next, row_ends, pixels-some}
+use Rattle.std.proofs.Common.{arith}
+use Rattle.row_pixels.proofs.RowLaws.{along-begins, along-next, pixels-some}
 use Rattle.row_pixels.proofs.paint_window.Goals as goal
 
 pub loop-x-init : goal.loop-x-init

@@ -10,7 +10,7 @@ use Rattle.row_pixels.proofs.paint_word.Goals.{After-four_bits}
 -- Behind the second pixel.
 first_two : (c : After-four_bits) →
     PaintsPixels c.args.p c.args.colours.now c.args.word 2 c.args.x c.args.to c.paint_pixel-third.result c.args.pixels.now
-        c.paint_pixel-third.new.pixels
+    c.paint_pixel-third.new.pixels
 first_two c =
     let a = c.args in
     next-pixel a.p a.colours.now a.word

@@ -1,5 +1,5 @@
 -- At each place of a word.
-use Rattle.std.proofs.Common.{◌≡◌, ℕ, ◌+◌, ◌-◌, ◌*◌, ◌/◌, ◌%◌, ◌^◌, ◌<◌, sym, refl, ap, ◌∙◌, arith, rules}
+use Rattle.std.proofs.Common.{◌≡◌, ℕ, ◌+◌, ◌-◌, ◌*◌, ◌/◌, ◌%◌, ◌^◌, ◌<◌, sym, refl, ap, ◌∙◌, arith}
 use Rattle.xosera.specs.Fields.{colour_base}
 use Rattle.xosera.proofs.Quotients.{nibble-at}
 use Rattle.xosera.proofs.Tables.{◌and◌, below_each}

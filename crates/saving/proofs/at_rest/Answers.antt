@@ -1,5 +1,4 @@
 -- Each of the four words is 0, or the answer is no.
-use borrow.Author.Rules.{rules}
 use borrow.Author.Tests.{eq-eqb, ne_eqb}
 use Rattle.xosera.specs.State.{state_at}
 use Rattle.xosera.specs.Beam.{at_rest}

@@ -4,7 +4,6 @@ use mathlib.Core.List.{List}
 use Prim.Native.Nat.{ℕ}
 use native.Mathlib.Omega.{arith}
 use borrow.Author.Rules.{rules}
-use borrow.Author.Tests.{not-true, not-false}
 use Rattle.xosera.specs.Adapter.{Adapter, adapter_at}
 use Rattle.vram.proofs.Lengths.{length-bounds}
 use Rattle.saved_file.proofs.SavedLaws.{saved-length}
@@ -14,7 +13,6 @@ use Rattle.saving.proofs.save.Goals.{After-lent_refusal-refusal}
 
 -- The adapter and the room at the call.
 module _ (c : After-lent_refusal-refusal) where
-
   abbrev words : List ℕ
   words = c.args.s.now
 
@@ -49,7 +47,7 @@ returns-then-not-at_rest c =
 pub put_file-requires : goal.put_file-requires
 put_file-requires c =
     let f = fit (words (goal.at.put_file-requires c).After-lent_refusal-refusal) (vram (goal.at.put_file-requires c).After-lent_refusal-refusal) (xr (goal.at.put_file-requires c).After-lent_refusal-refusal) c.lent_refusal-refusal.ensures c.if-refusal-ne0.false in
-    record { s_len = search rules; xr_len = f.xr; vram_len_bound = (length-bounds _ f.vram).1; vram_in_bounds = c.if-room-length.false; }
+    record { s_len = search rules; xr_len = f.xr; vram_len_bound = (length-bounds _ f.vram).1; vram_in_bounds = c.if-room-length.false }
 
 pub returns : goal.returns
 returns c =

@@ -4,7 +4,6 @@ use Prim.Native.Nat.{ℕ}
 use Rattle.xosera.proofs.Tables.{◌and◌, below_each}
 use Rattle.sequence.specs.Played.{event_of}
 use Rattle.sequence.proofs.PlayedLists.{else-run}
-use borrow.Author.Rules.{rules}
 use Rattle.sequence.proofs.apply.Goals as goal
 
 pub returns-in-0 : goal.returns-in-0

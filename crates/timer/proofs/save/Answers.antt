@@ -1,5 +1,5 @@
 -- One store.
-use Rattle.std.proofs.Common.{◌%◌, [], ◌∷◌, refl, rules}
+use Rattle.std.proofs.Common.{◌%◌, [], ◌∷◌, refl}
 use Rattle.xosera.specs.State.{word_at, state_at}
 use Rattle.xosera.specs.Memories.{stored}
 use Rattle.xosera.specs.Plan.{changed, perform}

@@ -1,5 +1,5 @@
 -- A countdown at its end, one that is stopped, and one that goes on.
-use Rattle.std.proofs.Common.{◌-◌, [], ◌∷◌, refl, ◌∙◌, arith, length-set, rules, eq-eqb, ne_eqb}
+use Rattle.std.proofs.Common.{◌-◌, [], ◌∷◌, refl, ◌∙◌, eq-eqb, ne_eqb}
 use lib.Bits.{bit_or}
 use Rattle.xosera.specs.State.{word_at, state_at}
 use Rattle.xosera.specs.Words.{wrap}

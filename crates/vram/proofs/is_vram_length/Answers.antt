@@ -1,7 +1,6 @@
 -- No length below 256 or above 65,536, and between them the powers of two.
 use native.Mathlib.Omega.{arith}
 use Rattle.vram.proofs.Powers.{no_length, tested}
-use borrow.Author.Rules.{rules}
 use Rattle.vram.proofs.is_vram_length.Goals as goal
 
 pub returns-then-n-lt256 : goal.returns-then-n-lt256

@@ -2,7 +2,6 @@
 use native.Mathlib.Nat.{mod-lt}
 use native.Mathlib.Omega.{arith}
 use Rattle.vram.proofs.Lengths.{length-bounds, masked}
-use borrow.Author.Rules.{rules}
 use Rattle.vram.proofs.place.Goals as goal
 
 pub overflow_sub-result : goal.overflow_sub-result

@@ -1,6 +1,5 @@
 -- The word at the place of the address.
 use Rattle.xosera.specs.Memories.{place, word}
-use borrow.Author.Rules.{rules}
 use Rattle.vram.proofs.read_word.Goals as goal
 
 pub returns : goal.returns

@@ -1,7 +1,6 @@
 -- The merged word at the place of the address; under mask 0 that is the word that was there.
 use Rattle.xosera.specs.Memories.{place, word}
 use Rattle.vram.proofs.StoredWord.{stored_at}
-use borrow.Author.Rules.{rules}
 use Rattle.vram.proofs.store_bits.Goals as goal
 
 pub returns : goal.returns

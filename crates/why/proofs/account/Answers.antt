@@ -4,13 +4,11 @@ use mathlib.Core.Path.{◌≡◌, refl, sym, ap, subst, ◌∙◌}
 use mathlib.Core.Bool.{true}
 use Prim.Native.Nat.{suc}
 use native.Mathlib.Omega.{arith}
-use borrow.Author.Tests.{not-true, not-false}
 use Rattle.xosera.specs.Memories.{is_vram_length, Pixel}
 use Rattle.xosera.specs.Blitter.{engine_left}
 use lib.ListN.{length}
 use Rattle.xosera.specs.Ranges.{Running}
-use Rattle.xosera.proofs.EngineLaws.{launched-running, next-left, drawn-length}
-use Rattle.why.specs.Progress.{Known}
+use Rattle.xosera.proofs.EngineLaws.{launched-running, next-left}
 use Rattle.why.proofs.Noting.{runs_on, known-first, known-noted, known-all, drawn-all, whole-account, whole-drawing}
 use Rattle.why.proofs.account.Goals as goal
 use Rattle.why.proofs.account.Goals.{At-loop-vram}

@@ -1,6 +1,5 @@
 -- Written now, or before, or held back.
 use mathlib.Core.Path.{sym, ap, ◌∙◌}
-use borrow.Author.Rules.{rules}
 use Rattle.xosera.proofs.Branches.{cond_yes, cond_no}
 use Rattle.xosera.specs.Blitter.{sourced}
 use Rattle.reasons.specs.Account.{held_back_by, unless_written}

@@ -1,7 +1,6 @@
 -- Each mask lacks the nibbles that it holds back.
 use mathlib.Core.Path.{◌≡◌, ap, ◌∙◌}
 use mathlib.Core.Bool.{Bool, true, false, not}
-use borrow.Author.Rules.{rules}
 use Rattle.reasons.specs.declared.Why.TheVariants.{HeldBack}
 use Rattle.xosera.specs.Words.{bit}
 use Rattle.xosera.specs.Blitter.{sourced, test_mask}

@@ -1,6 +1,5 @@
 -- The numbers of each case.
 use mathlib.Core.Path.{sym, ap, ◌∙◌}
-use borrow.Author.Rules.{rules}
 use Rattle.reasons.specs.WhyCall.{numbers}
 use Rattle.why.proofs.in_numbers.Goals as goal
 

@@ -1,10 +1,6 @@
 -- The word is drawn; at the address what it did is noted, and elsewhere nothing.
 use mathlib.Core.Path.{sym, ap, ◌∙◌}
-use borrow.Author.Rules.{rules}
-use borrow.Author.Tests.{not-true, not-false}
 use Rattle.xosera.specs.Memories.{place}
-use Rattle.xosera.specs.Blitter.{drawing}
-use Rattle.words.specs.Spread.{spread}
 use Rattle.xosera.proofs.Branches.{cond_yes, cond_no}
 use Rattle.why.specs.Reaches.{after_reach}
 use Rattle.why.proofs.note.Goals as goal

@@ -4,12 +4,10 @@ use mathlib.Core.Bool.{true}
 use Prim.Native.Nat.{suc}
 use native.Mathlib.Omega.{arith}
 use lib.ListN.{length}
-use borrow.Author.Tests.{not-true}
 use Rattle.xosera.specs.Memories.{is_vram_length, place}
 use Rattle.xosera.specs.Blitter.{engine_left}
 use Rattle.xosera.proofs.EngineLaws.{next-left}
-use Rattle.why.specs.Progress.{Passed}
-use Rattle.why.proofs.Noting.{runs_on, passed_none, passed-more, passed-word}
+use Rattle.why.proofs.Noting.{runs_on, passed-more, passed-word}
 use Rattle.why.proofs.pass.Goals as goal
 use Rattle.why.proofs.pass.Goals.{At-loop-vram}
 

@@ -4,10 +4,8 @@ use mathlib.Core.Bool.{true}
 use native.Mathlib.Omega.{arith}
 use lib.ListN.{length}
 use Rattle.xosera.specs.Memories.{is_vram_length, place}
-use Rattle.xosera.specs.Blitter.{engine_left}
 use Rattle.xosera.proofs.EngineLaws.{inside-not-last, next-left}
-use Rattle.why.specs.Progress.{Passed}
-use Rattle.why.proofs.Noting.{passed_none, passed-more, passed-word}
+use Rattle.why.proofs.Noting.{passed-more, passed-word}
 use Rattle.why.proofs.pass_inside.Goals as goal
 use Rattle.why.proofs.pass_inside.Goals.{At-loop-at}
 
@@ -17,7 +15,7 @@ long c = ap is_vram_length c.loop-at.invariant.vram-length ∙ c.requires.vram_v
 
 pub advance-at-requires : goal.advance-at-requires
 advance-at-requires c =
-    record { running = c.loop-at.invariant.goes_on; e_value = inside-not-last _ (sym c.last_word.ensures ∙ c.if-last_word.false); }
+    record { running = c.loop-at.invariant.goes_on; e_value = inside-not-last _ (sym c.last_word.ensures ∙ c.if-last_word.false) }
 
 pub loop-at-smaller : goal.loop-at-smaller
 loop-at-smaller c =

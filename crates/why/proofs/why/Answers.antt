@@ -3,7 +3,6 @@ use mathlib.Core.Path.{sym, ap, ◌∙◌}
 use mathlib.Core.List.{List}
 use Prim.Native.Nat.{ℕ}
 use lib.ListN.{length}
-use borrow.Author.Rules.{rules}
 use Rattle.xosera.specs.Memories.{is_vram_length, Pixel}
 use Rattle.blits.specs.Blits.{drawn_by}
 use Rattle.reasons.specs.Account.{why_of}
@@ -34,7 +33,7 @@ copy-requires c = (accepted (goal.at.copy-requires c).Else-refusal-ne0).same
 pub account-requires : goal.account-requires
 account-requires c =
     let ok = accepted (goal.at.account-requires c).Else-refusal-ne0 in
-    record { vram_value = ap (λ l. is_vram_length (length l)) c.copy.ensures ∙ ok.long; nibble_bound = ok.nibble; }
+    record { vram_value = ap (λ l. is_vram_length (length l)) c.copy.ensures ∙ ok.long; nibble_bound = ok.nibble }
 
 pub returns : goal.returns
 returns c =

@@ -2,8 +2,6 @@
 use mathlib.Core.Path.{◌≡◌, sym, subst, ◌∙◌}
 use Prim.Native.Nat.{ℕ}
 use native.Mathlib.Omega.{arith}
-use borrow.Author.Rules.{rules}
-use borrow.Author.Tests.{not-true, not-false}
 use Rattle.xosera.specs.Memories.{Pixel}
 use Rattle.reasons.specs.WhyCall.{why_refusal}
 use Rattle.reasons.proofs.RefusalOrder.{refusals-hold}

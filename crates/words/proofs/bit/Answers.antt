@@ -1,6 +1,5 @@
 -- A shift right by k and a remainder by 2 is bit k.
 use mathlib.Core.Path.{refl}
-use borrow.Author.Rules.{rules}
 use Rattle.xosera.specs.Words.{bit}
 use Rattle.words.proofs.bit.Goals as goal
 

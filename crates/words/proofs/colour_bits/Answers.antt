@@ -1,9 +1,5 @@
 -- By the kind of test that was asked for. The sum and the products stay in a word.
-use Prim.Native.Nat.{◌*◌}
-use borrow.Author.Rules.{rules}
-use native.Mathlib.Omega.{arith}
-use lib.Bits.{bit_xor, and_le_r}
-use Rattle.words.proofs.Colours.{colour_tops, nibble-room, nibble-bits, byte-room, byte-bits}
+use Rattle.words.proofs.Colours.{nibble-bits, byte-bits}
 use Rattle.words.proofs.colour_bits.Goals as goal
 
 pub returns-then-bytes : goal.returns-then-bytes

@@ -1,6 +1,4 @@
 -- At each of the sixteen masks the four bits come back.
-use native.Mathlib.Omega.{arith}
-use lib.Bits.{and_le_r}
 use Rattle.words.proofs.Nibbles.{gather-spread}
 use Rattle.words.proofs.gathered.Goals as goal
 

@@ -1,7 +1,6 @@
 -- The lowest bit of a nibble of the spread is the mask's.
 use mathlib.Core.Path.{ap, ◌∙◌}
 use Prim.Native.Nat.{◌*◌}
-use borrow.Author.Rules.{rules}
 use Rattle.xosera.specs.Words.{bit}
 use Rattle.words.proofs.Nibbles.{spread-bit}
 use Rattle.words.proofs.has_nibble.Goals as goal

@@ -1,7 +1,6 @@
 -- The pair of words shifted as one number, at each of the four shifts.
 use mathlib.Core.Path.{◌≡◌}
 use Prim.Native.Nat.{ℕ, ◌+◌, ◌*◌, ◌-◌, ◌/◌, ◌%◌, ◌^◌, ◌<◌}
-use borrow.Author.Rules.{rules}
 use native.Mathlib.Omega.{arith}
 use Rattle.xosera.specs.Words.{shifted}
 use Rattle.xosera.proofs.Tables.{◌and◌, below_each}

@@ -1,5 +1,4 @@
 -- The code is the definition, byte by byte.
-use borrow.Author.Rules.{rules}
 use Rattle.xosera.specs.HostBytes.{word_of}
 use Rattle.words.proofs.word_of.Goals as goal
 

@@ -5,7 +5,6 @@ use native.Mathlib.Omega.{arith}
 use borrow.Rule.Slice.PartMut.{mid_len}
 use Rattle.xosera.specs.XrSpace.{xr_read}
 use Rattle.xr_memory.proofs.Parts.{tested, inside, no_register, part-word}
-use borrow.Author.Rules.{rules}
 use Rattle.xr_memory.proofs.load.Goals as goal
 
 pub bounds-xr-at : goal.bounds-xr-at

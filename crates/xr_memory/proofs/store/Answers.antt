@@ -4,7 +4,6 @@ use native.Mathlib.Omega.{arith}
 use borrow.Rule.Slice.PartMut.{set_mid_at, mid_len}
 use Rattle.xosera.specs.XrSpace.{xr_memory_write}
 use Rattle.xr_memory.proofs.Parts.{tested, inside}
-use borrow.Author.Rules.{rules}
 use Rattle.xr_memory.proofs.store.Goals as goal
 
 pub overflow_sub-xr : goal.overflow_sub-xr

@@ -1,7 +1,6 @@
 -- By the tests as they stand.
 use borrow.Author.Tests.{lt-leb, le-leb}
 use Rattle.xosera.specs.XrSpace.{within}
-use borrow.Author.Rules.{rules}
 use Rattle.xr_memory.proofs.within.Goals as goal
 
 pub returns-then-a-base : goal.returns-then-a-base

@@ -1,5 +1,5 @@
 -- Bit 15 set leaves the copper; clear stops it.
-use Rattle.std.proofs.Common.{[], ◌∷◌, sym, refl, ◌∙◌, rules}
+use Rattle.std.proofs.Common.{[], ◌∷◌, sym, refl, ◌∙◌}
 use Rattle.xosera.specs.State.{state_at}
 use Rattle.xosera.proofs.WordLaws.{◌takes◌, stored-state}
 use Rattle.xr_port.proofs.control_copper.Goals as goal

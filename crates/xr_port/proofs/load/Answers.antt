@@ -1,5 +1,5 @@
 -- The address set and the word there loaded.
-use Rattle.std.proofs.Common.{[], ◌∷◌, refl, ◌∙◌, rules}
+use Rattle.std.proofs.Common.{[], ◌∷◌, refl, ◌∙◌}
 use Rattle.xosera.specs.State.{state_at}
 use Rattle.xosera.specs.Memories.{stored}
 use Rattle.xosera.specs.Plan.{changed, perform}

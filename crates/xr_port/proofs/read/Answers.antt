@@ -1,7 +1,6 @@
 -- The address moved on by 1, and the word there loaded.
 use Rattle.xosera.specs.State.{state_at}
 use Rattle.xosera.specs.Words.{wrap}
-use Rattle.std.proofs.Common.{rules}
 use Rattle.xr_port.proofs.read.Goals as goal
 
 pub returns : goal.returns

@@ -1,5 +1,5 @@
 -- The address moved on, then the store at the address as it was.
-use Rattle.std.proofs.Common.{[], ◌∷◌, refl, ap, ◌∙◌, length-set, rules}
+use Rattle.std.proofs.Common.{[], ◌∷◌, refl, ap, ◌∙◌}
 use Rattle.xosera.specs.State.{word_at, state_at}
 use Rattle.xosera.specs.Words.{wrap}
 use Rattle.xosera.specs.Adapter.{Adapter}

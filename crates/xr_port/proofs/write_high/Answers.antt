@@ -1,5 +1,5 @@
 -- 0x49 and the others.
-use Rattle.std.proofs.Common.{arith, rules}
+use Rattle.std.proofs.Common.{arith}
 use Rattle.xosera.specs.State.{state_at}
 use Rattle.xr_port.proofs.XrWrites.{starting-write, register-write}
 use Rattle.xr_port.proofs.write_high.Goals as goal

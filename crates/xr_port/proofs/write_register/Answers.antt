@@ -1,5 +1,5 @@
 -- From 0x10 on, 0x03, 0x01 and the others.
-use Rattle.std.proofs.Common.{[], ◌∷◌, refl, ◌∙◌, arith, rules}
+use Rattle.std.proofs.Common.{[], ◌∷◌, refl, ◌∙◌, arith}
 use lib.Bits.{bit_or}
 use Rattle.xosera.specs.State.{word_at, state_at}
 use Rattle.xosera.specs.Fields.{frame_ended}

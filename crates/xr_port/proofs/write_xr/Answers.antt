@@ -1,7 +1,6 @@
 -- Memory from 0x4000 on, a register below.
 use Rattle.xosera.specs.State.{state_at}
 use Rattle.xr_port.proofs.XrWrites.{memory-write}
-use Rattle.std.proofs.Common.{rules}
 use Rattle.xr_port.proofs.write_xr.Goals as goal
 
 pub returns-then-at-ge16384 : goal.returns-then-at-ge16384

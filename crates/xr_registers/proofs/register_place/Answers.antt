@@ -8,7 +8,6 @@ use Rattle.xosera.specs.XrSpace.{within}
 use Rattle.xosera.proofs.Tables.{none_below}
 use Rattle.xr_memory.proofs.Parts.{tested, inside}
 use Rattle.xr_registers.specs.Places.{low_places, register_place}
-use borrow.Author.Rules.{rules}
 use Rattle.xr_registers.proofs.register_place.Goals as goal
 use Rattle.xr_registers.proofs.register_place.Goals.{Else-within, Else-within-2, Else-within-3}
 

@@ -9,7 +9,6 @@ use Rattle.xosera.proofs.Branches.{cond_yes, cond_no}
 use Rattle.xr_memory.proofs.Parts.{no_register}
 use Rattle.xr_registers.specs.Places.{register_place}
 use Rattle.xr_registers.proofs.Registers.{read_at}
-use borrow.Author.Rules.{rules}
 use Rattle.xr_registers.proofs.register_read.Goals as goal
 use Rattle.xr_registers.proofs.register_read.Goals.{After-register_place-i}
 

@@ -1,6 +1,5 @@
 -- The word of the register, or none.
 use Rattle.xr_registers.proofs.Registers.{stored-register, unstored-register}
-use borrow.Author.Rules.{rules}
 use Rattle.xr_registers.proofs.store_register.Goals as goal
 
 pub returns-then-i-lt-STATE_WORDS : goal.returns-then-i-lt-STATE_WORDS

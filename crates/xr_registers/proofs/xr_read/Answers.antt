@@ -2,7 +2,6 @@
 use native.Mathlib.Omega.{arith}
 use Rattle.xosera.specs.XrSpace.{xr_read}
 use Rattle.xr_memory.proofs.Parts.{below-range}
-use borrow.Author.Rules.{rules}
 use Rattle.xr_registers.proofs.xr_read.Goals as goal
 
 pub returns : goal.returns
