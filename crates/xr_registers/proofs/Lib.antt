@@ -1,2 +1,3 @@
 -- Laws of the stored registers that belong to no one function.
 pub mod Registers
+pub mod RegisterPlaces

@@ -14,7 +14,7 @@ use Rattle.xosera.proofs.WordLaws.{Stored, ◌takes◌, all_placed, set_all, put
 use Rattle.access.proofs.write_word.Goals as goal
 use Rattle.access.proofs.write_word.Goals.{After-slice_known-3-1}
 
--- One word stored since the call's c.
+-- One word stored since the call's start.
 one_store : (c : After-slice_known-3-1) (p : Stored) → all_placed (p ∷ []) ≡ true →
     let a = c.args in
     adapter_at (set_all a.s.now (p ∷ [])) a.vram.now a.xr.now ≡ adapter (state_by (put_all (p ∷ []) (word_at a.s.now))) a.vram.now a.xr.now

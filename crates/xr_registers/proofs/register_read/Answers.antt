@@ -1,6 +1,7 @@
 -- What reads 0, and the word of the register.
 use mathlib.Core.Path.{◌≡◌, sym, ◌∙◌}
 use mathlib.Core.Bool.{cond}
+use native.Mathlib.Omega.{arith}
 use borrow.Author.Tests.{lt-ltb, le-ltb}
 use lib.Dec.{ltb}
 use Rattle.xosera.specs.State.{state_words, word_at, state_at}
@@ -12,7 +13,7 @@ use Rattle.xr_registers.proofs.Registers.{read_at}
 use Rattle.xr_registers.proofs.register_read.Goals as goal
 use Rattle.xr_registers.proofs.register_read.Goals.{After-register_place-i}
 
--- Past the c a register reads as its word, if it has one.
+-- Past the tests a register reads as its word, if it has one.
 read : (c : After-register_place-i) →
     let s = c.args in
     cond (ltb (register_place s.at) state_words) (word_at s.s.now (register_place s.at)) 0
@@ -20,8 +21,7 @@ read : (c : After-register_place-i) →
 unfolding state_at
 read c =
     let s = c.args in
-    read_at (word_at s.s.now) s.at c.if-at-ge32.false
-    c.if-at-eq21.false c.if-at-eq29.false c.if-at-eq3.false
+    read_at (word_at s.s.now) s.at (omega arith) (omega arith) (omega arith) (omega arith)
 
 pub returns-then-at-ge32 : goal.returns-then-at-ge32
 returns-then-at-ge32 c = sym (no_register _ _ _ c.if-at-ge32.true)

@@ -1,0 +1,2 @@
+-- Laws of accesses that belong to no one function.
+pub mod Past
