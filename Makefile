@@ -56,10 +56,10 @@ all: lib example
 
 lib: $(LIB)
 
-# rt names the archive after the crate. It proves crate firmware, and the crates below it that have changed.
+# rt names the archive after the crate. It proves crate firmware_c, and the crates below it that have changed.
 build/libxosera.a: $(shell find crates -name out -prune -o \( -type d -o -name '*.rt' -o -name '*.antt' \) -print) crates.txt | build
-	cd crates/firmware && rt lib
-	cp crates/firmware/out/libfirmware.a $@
+	cd crates/firmware_c && rt lib
+	cp crates/firmware_c/out/libfirmware_c.a $@
 
 example: build/cross
 	build/cross
