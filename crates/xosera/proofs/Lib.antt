@@ -2,7 +2,6 @@
 -- what is done to it, and what then holds, as `stepped-in-range` or `launched-left`.
 pub mod Branches
 pub mod Tables
-pub mod FilledLists
 pub mod Quotients
 pub mod Computing
 pub mod ExamplesHold
@@ -15,3 +14,5 @@ pub mod RangeLaws
 pub mod BeamLaws
 pub mod PlanLaws
 pub mod StepLaws
+pub mod MainRegisters
+pub mod Results

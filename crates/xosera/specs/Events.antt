@@ -1,11 +1,14 @@
 -- The calls but reset (document 01, first paragraph, and "The order of things"); among them, by document 02, request 3, a beam step and
 -- no frame end. Save and load (document 02, request 1) are no events.
-use Rattle.std.specs.Prelude.{◌≡◌, Bool, cond, List, ℕ}
+use Rattle.std.specs.Prelude.{◌≡◌, Bool, cond, List, ℕ, Result, Ok, Err}
 use Rattle.xosera.specs.declared.WriteAnswer.{WriteAnswer}
 use Rattle.xosera.specs.declared.ReadAnswer.{ReadAnswer}
 use Rattle.xosera.specs.declared.BlitAnswer.{BlitAnswer}
 use Rattle.xosera.specs.declared.StateAnswer.{StateAnswer}
 use Rattle.xosera.specs.declared.LineAnswer.{LineAnswer}
+use Rattle.xosera.specs.declared.Done.{Done}
+use Rattle.xosera.specs.declared.Refusal.{Refusal}
+use Rattle.xosera.specs.Told.{refusal_number}
 
 -- A host access by register number, even (false) or odd (true), and byte; a timer tick; a beam step; the line question.
 pub data Call : Type 0 where
@@ -49,3 +52,24 @@ of_state r = maskless r.refusal 0
 
 abbrev pub of_line : LineAnswer → Answer
 of_line r = maskless r.refusal (cond r.up 1 0)
+
+-- The answer that each result stands for: of a write its mask, of a read its byte, of a save the file's length, of blit steps how many and the last one's mask, of a
+-- tick, a beam step and a load nothing, of the line question whether it is up. A refusal answers its number alone.
+abbrev pub of_result : {A : Type 0} → (A → Answer) → Result A Refusal → Answer
+of_result given (Ok x) = given x
+of_result given (Err refused) = maskless (refusal_number refused) 0
+
+abbrev pub of_mask : Result ℕ Refusal → Answer
+of_mask = of_result (λ m. record { refusal = 0; value = 0; mask = m })
+
+abbrev pub of_number : Result ℕ Refusal → Answer
+of_number = of_result (λ b. maskless 0 b)
+
+abbrev pub of_done : Result Done Refusal → Answer
+of_done = of_result (λ d. record { refusal = 0; value = d.count; mask = d.mask })
+
+abbrev pub of_nothing : Result (Unit {0}) Refusal → Answer
+of_nothing = of_result (λ _. maskless 0 0)
+
+abbrev pub of_up : Result Bool Refusal → Answer
+of_up = of_result (λ up. maskless 0 (cond up 1 0))

@@ -12,6 +12,7 @@ pub mod XrSpace
 pub mod Copper
 pub mod HostBytes
 pub mod TimerTick
+pub mod Told
 pub mod Events
 pub mod Ranges
 pub mod Acts

@@ -1,6 +1,11 @@
-// The adapter's types by value: the two kinds of address, the blitter's registers and engine, and what a call answers. The
-// state is a fixed number of 16-bit words, lent to each call; their meaning is in specs/State.antt, their names are here.
+// The adapter's types by value: the two kinds of address, the blitter's registers and engine, what a call answers and what it is refused
+// with. The state is a fixed number of 16-bit words, lent to each call; their meaning is in specs/State.antt, their names are here. It is no
+// struct of fields, since the definitions speak of the words (`state_by`, `laid_out`), as the saved file does (`register_words`).
 #![tactic(auto)]
+
+ghost use Rattle.std.specs.Prelude.{◌≡◌};
+ghost use Rattle.xosera.specs.Events.{maskless, of_write, of_read, of_blit, of_state, of_line, of_mask, of_number, of_done, of_nothing, of_up};
+ghost use Rattle.xosera.specs.Told.{refusal_number, MainRegisterOf};
 
 // An address in VRAM.
 #[repr(C)]
@@ -14,7 +19,7 @@ pub struct XrAddr(pub u16);
 
 // The blitter's ten registers, 0x40 to 0x49.
 #[repr(C)]
-#[derive(Clone, Copy)]
+#[derive(Clone, Copy, Default)]
 pub struct BlitRegs {
     pub ctrl: u16,
     pub andc: u16,
@@ -28,10 +33,10 @@ pub struct BlitRegs {
     pub words: u16,
 }
 
-// The running blit: whether one runs, 1 or 0; the line and the word that come next; the source word kept for the
+// The engine: whether a blit runs, 1 or 0, a word of the state as every flag is (`state_by`); the line and the word that come next; the source word kept for the
 // shifter; and the registers as copied, SRC_S and DST_D moving on in place.
 #[repr(C)]
-#[derive(Clone, Copy)]
+#[derive(Clone, Copy, Default)]
 pub struct Engine {
     pub running: u16,
     pub line: u16,
@@ -40,7 +45,97 @@ pub struct Engine {
     pub regs: BlitRegs,
 }
 
-// What writing a byte answers. In every answer `refusal` is 0 for done. `mask` has the nibbles of VRAM that were written, bit 3 for
+// The words of a state, and those of XR memory.
+pub type StateWords = [u16; STATE_WORDS];
+
+pub type XrWords = [u16; XR_WORDS];
+
+// The sixteen main registers.
+#[derive(Clone, Copy, Debug, PartialEq, Eq)]
+pub enum MainRegister {
+    SysCtrl,
+    IntCtrl,
+    Timer,
+    RdXaddr,
+    WrXaddr,
+    Xdata,
+    RdIncr,
+    RdAddr,
+    WrIncr,
+    WrAddr,
+    Data,
+    Data2,
+    Unused12,
+    Unused13,
+    Unused14,
+    Features,
+}
+
+// A register by its number; over 15 there is none.
+impl TryFrom<u8> for MainRegister {
+    type Error = Refusal;
+
+    ghost try_from_gives = { MainRegisterOf };
+
+    fn try_from(number: u8) -> Result<MainRegister, Refusal> {
+        match number {
+            0 => Ok(MainRegister::SysCtrl),
+            1 => Ok(MainRegister::IntCtrl),
+            2 => Ok(MainRegister::Timer),
+            3 => Ok(MainRegister::RdXaddr),
+            4 => Ok(MainRegister::WrXaddr),
+            5 => Ok(MainRegister::Xdata),
+            6 => Ok(MainRegister::RdIncr),
+            7 => Ok(MainRegister::RdAddr),
+            8 => Ok(MainRegister::WrIncr),
+            9 => Ok(MainRegister::WrAddr),
+            10 => Ok(MainRegister::Data),
+            11 => Ok(MainRegister::Data2),
+            12 => Ok(MainRegister::Unused12),
+            13 => Ok(MainRegister::Unused13),
+            14 => Ok(MainRegister::Unused14),
+            15 => Ok(MainRegister::Features),
+            _ => Err(Refusal::NoRegister),
+        }
+    }
+}
+
+// What a call is refused with, by the papers' numbers (specs/Told.antt), of which no call here gives 14.
+#[derive(Clone, Copy, Debug, PartialEq, Eq)]
+pub enum Refusal {
+    VramLength = 1,
+    XrLength = 2,
+    StateRange = 3,
+    NoRegister = 4,
+    BlitterFull = 5,
+    Reconfigure = 6,
+    RoomShort = 7,
+    NoSavedAdapter = 8,
+    SavedVramLength = 9,
+    NotAtRest = 10,
+    NoBitmap = 11,
+    NoLine = 12,
+    PixelsLength = 13,
+    NoNibble = 15,
+}
+
+// The number of a refusal, for C.
+impl From<Refusal> for u8 {
+    ghost from_gives = { λ refused n. n ≡ refusal_number refused };
+
+    fn from(refused: Refusal) -> u8 {
+        refused as u8
+    }
+}
+
+// What some blit steps came to: how many words were done, and the nibbles that the last of them wrote.
+#[derive(Clone, Copy, Default)]
+pub struct Done {
+    pub count: u64,
+    pub mask: u8,
+}
+
+// What writing a byte answers to C. In every answer `refusal` is 0 for done. `mask` has the nibbles of VRAM that were written, bit 3 for
 // 15:12 of the word to bit 0 for 3:0, and is 0 of all but an odd data write.
 #[repr(C)]
 #[derive(Clone, Copy)]
@@ -49,12 +144,40 @@ pub struct WriteAnswer {
     pub mask: u8,
 }
 
+impl From<Result<u8, Refusal>> for WriteAnswer {
+    ghost from_gives = { λ given answer. of_write answer ≡ of_mask given };
+
+    fn from(given: Result<u8, Refusal>) -> WriteAnswer {
+        match given {
+            Ok(mask) => WriteAnswer { refusal: 0, mask },
+            Err(refused) => WriteAnswer {
+                refusal: refused.into(),
+                mask: 0,
+            },
+        }
+    }
+}
+
 // What reading a byte answers.
 #[repr(C)]
 #[derive(Clone, Copy)]
 pub struct ReadAnswer {
     pub refusal: u8,
     pub byte: u8,
+}
+
+impl From<Result<u8, Refusal>> for ReadAnswer {
+    ghost from_gives = { λ given answer. of_read answer ≡ of_number given };
+
+    fn from(given: Result<u8, Refusal>) -> ReadAnswer {
+        match given {
+            Ok(byte) => ReadAnswer { refusal: 0, byte },
+            Err(refused) => ReadAnswer {
+                refusal: refused.into(),
+                byte: 0,
+            },
+        }
+    }
 }
 
 // What a blit step and a run of blit steps answer: how many words were done, and the nibbles that the last of them wrote.
@@ -66,11 +189,40 @@ pub struct BlitAnswer {
     pub count: u64,
 }
 
+impl From<Result<Done, Refusal>> for BlitAnswer {
+    ghost from_gives = { λ given answer. of_blit answer ≡ of_done given };
+
+    fn from(given: Result<Done, Refusal>) -> BlitAnswer {
+        let (refusal, done) = match given {
+            Ok(done) => (0, done),
+            Err(refused) => (refused.into(), Done::default()),
+        };
+        BlitAnswer {
+            refusal,
+            mask: done.mask,
+            count: done.count,
+        }
+    }
+}
+
 // What a timer tick and a beam step answer.
 #[repr(C)]
 #[derive(Clone, Copy)]
 pub struct StateAnswer {
     pub refusal: u8,
+}
+
+impl From<Result<(), Refusal>> for StateAnswer {
+    ghost from_gives = { λ given answer. of_state answer ≡ of_nothing given };
+
+    fn from(given: Result<(), Refusal>) -> StateAnswer {
+        match given {
+            Ok(()) => StateAnswer { refusal: 0 },
+            Err(refused) => StateAnswer {
+                refusal: refused.into(),
+            },
+        }
+    }
 }
 
 // What the line question answers: whether the interrupt line is up.
@@ -81,12 +233,40 @@ pub struct LineAnswer {
     pub up: bool,
 }
 
+impl From<Result<bool, Refusal>> for LineAnswer {
+    ghost from_gives = { λ given answer. of_line answer ≡ of_up given };
+
+    fn from(given: Result<bool, Refusal>) -> LineAnswer {
+        match given {
+            Ok(up) => LineAnswer { refusal: 0, up },
+            Err(refused) => LineAnswer {
+                refusal: refused.into(),
+                up: false,
+            },
+        }
+    }
+}
+
 // What a save answers: the length of the file in bytes.
 #[repr(C)]
 #[derive(Clone, Copy)]
 pub struct SaveAnswer {
     pub refusal: u8,
     pub length: u64,
+}
+
+impl From<Result<u64, Refusal>> for SaveAnswer {
+    ghost from_gives = { λ given answer. maskless answer.refusal answer.length ≡ of_number given };
+
+    fn from(given: Result<u64, Refusal>) -> SaveAnswer {
+        match given {
+            Ok(length) => SaveAnswer { refusal: 0, length },
+            Err(refused) => SaveAnswer {
+                refusal: refused.into(),
+                length: 0,
+            },
+        }
+    }
 }
 
 // What a load answers.
@@ -96,8 +276,24 @@ pub struct LoadAnswer {
     pub refusal: u8,
 }
 
+impl From<Result<(), Refusal>> for LoadAnswer {
+    ghost from_gives = { λ given answer. maskless answer.refusal 0 ≡ of_nothing given };
+
+    fn from(given: Result<(), Refusal>) -> LoadAnswer {
+        match given {
+            Ok(()) => LoadAnswer { refusal: 0 },
+            Err(refused) => LoadAnswer {
+                refusal: refused.into(),
+            },
+        }
+    }
+}
+
 // How many words a state has, and which of them stands for which field (specs/State.antt).
 pub const STATE_WORDS: usize = 79;
+
+// How many words XR memory has.
+pub const XR_WORDS: usize = 6656;
 
 // Sixteen latches, one for each main register.
 pub const LATCHES: usize = 0;
@@ -217,6 +413,9 @@ pub const FRAME_BLANK: u16 = 160;
 pub const FRAME_LINES: u16 = 525;
 
 pub const VISIBLE_LINES: u16 = 480;
+
+// Where colour memory begins in XR memory.
+pub const COLOUR_MEMORY: usize = 5120;
 
 // The words of a copper program, and where it begins in XR memory.
 pub const PROGRAM: u16 = 1024;
