@@ -1,4 +1,5 @@
-// The bits and fields of registers' words, each read by one function that is named like its definition.
+// The bits and fields of registers' words, each read by one function that is named like its definition. Functions that compute alike stay
+// apart: the name and the contract by it are what they are for (docs/EXTENDING.md, "Add a rule").
 #![tactic(auto)]
 
 ghost use Rattle.std.specs.Prelude.{◌≡◌};

@@ -1,4 +1,5 @@
-// VRAM by its address modulo the length.
+// VRAM by its address modulo the length. It is a lent slice whose length each function requires: in a struct round the slice, which was
+// tried, the check no longer knows after a call what the slice holds.
 #![tactic(auto)]
 
 ghost use Rattle.std.specs.Prelude.{◌≡◌, true, ℕ, ◌%◌, ◌<◌, length};
@@ -33,11 +34,7 @@ pub fn copy(from: &[u16], to: &mut [u16])
     requires { length from.now ≡ length to.old }
     ensures { to.new ≡ from.now }
 {
-    let mut i = 0;
-    while i < to.len() {
-        to[i] = from[i];
-        i += 1;
-    }
+    to.copy_from_slice(from);
 }
 
 pub fn read_word(vram: &[u16], a: VramAddr) -> u16

@@ -7,17 +7,12 @@ ghost use Rattle.xosera.specs.Fields.{shift_count};
 ghost use Rattle.xosera.specs.HostBytes.{word_of};
 ghost use Rattle.words.specs.Spread.{spread};
 
-pub fn wide(x: u8) -> u16
-    ensures { result ≡ x }
-{
-    x as u16
-}
-
 // The word of a latch and a byte.
+#[tactic(auto, unfolding(xosera::specs::HostBytes::word_of))]
 pub fn word_of(latch: u8, byte: u8) -> u16
     ensures { result ≡ word_of latch byte }
 {
-    wide(latch) * 256 + wide(byte)
+    u16::from_be_bytes([latch, byte])
 }
 
 pub fn high_byte(w: u16) -> u8
@@ -40,10 +35,10 @@ pub fn spread(mask: u16) -> u16
 }
 
 // The nibble mask that was spread.
-pub fn gathered(bits: u16) -> u16
+pub fn gathered(bits: u16) -> u8
     ensures { (m : ℕ) → bits ≡ spread m → result ≡ m % 16 }
 {
-    (((((bits & 0x1111) as u32) * 0x0249) >> 9) % 16) as u16
+    (((((bits & 0x1111) as u32) * 0x0249) >> 9) % 16) as u8
 }
 
 // Whether a spread mask has nibble k, 0 the lowest.
