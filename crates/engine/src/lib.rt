@@ -12,46 +12,74 @@ ghost use Rattle.engine.specs.Drawing.{DrewOne};
 
 use xosera::{BlitRegs, Engine, VramAddr};
 
-// An idle engine.
 pub fn idle_engine() -> Engine
     ensures { result ≡ idle }
 {
-    let regs = BlitRegs {
-        ctrl: 0,
-        andc: 0,
-        xor: 0,
-        mods: 0,
-        srcs: 0,
-        modd: 0,
-        dstd: 0,
-        shift: 0,
-        lines: 0,
-        words: 0,
-    };
-    Engine {
-        running: 0,
-        line: 0,
-        word: 0,
-        kept: 0,
-        regs,
+    Engine::default()
+}
+
+// A running blit: an engine that is fit to go on.
+#[derive(Clone, Copy)]
+pub struct Blit {
+    pub engine: Engine,
+    ghost running: { Running engine },
+}
+
+impl Blit {
+    // A blit starts with a copy of the registers.
+    #[tactic(auto, unfolding(xosera::specs::Blitter::launched))]
+    pub fn launch(regs: BlitRegs) -> Blit
+        ensures { result.engine ≡ launched regs }
+    {
+        let regs = BlitRegs {
+            lines: regs.lines % 32768,
+            ..regs
+        };
+        Blit {
+            engine: Engine {
+                running: 1,
+                line: 0,
+                word: 0,
+                kept: 0,
+                regs,
+            },
+        }
+    }
+
+    // The blit after a word that is not its last.
+    #[tactic(auto, unfolding(xosera::specs::Blitter::next, xosera::specs::Blitter::last_step, xosera::specs::Blitter::last_word))]
+    pub fn advance(self, word: u16) -> Blit
+        requires { last_step self.engine ≡ false }
+        ensures { result.engine ≡ next self.engine word }
+    {
+        let e = self.engine;
+        let regs = BlitRegs {
+            srcs: next_source(e),
+            dstd: next_dest(e),
+            ..e.regs
+        };
+        let moved = Engine {
+            kept: word,
+            regs,
+            ..e
+        };
+        let engine = if last_word(e) {
+            Engine {
+                line: e.line + 1,
+                word: 0,
+                ..moved
+            }
+        } else {
+            Engine {
+                word: e.word + 1,
+                ..moved
+            }
+        };
+        Blit { engine }
     }
 }
 
-// A blit starts with a copy of the registers.
-pub fn launch(r: BlitRegs) -> Engine
-    ensures { result ≡ launched r }
-{
-    let mut regs = r;
-    regs.lines = r.lines % 32768;
-    Engine {
-        running: 1,
-        line: 0,
-        word: 0,
-        kept: 0,
-        regs,
-    }
-}
-
+#[tactic(auto, unfolding(xosera::specs::Blitter::last_word))]
 pub fn last_word(e: Engine) -> bool
     ensures { result ≡ last_word e }
 {
@@ -59,15 +87,14 @@ pub fn last_word(e: Engine) -> bool
 }
 
 // The blit's last word.
+#[tactic(auto, unfolding(xosera::specs::Blitter::last_step))]
 pub fn last_step(e: Engine) -> bool
     ensures { result ≡ last_step e }
 {
-    if last_word(e) {
-        return e.line == e.regs.lines;
-    }
-    false
+    last_word(e) && e.line == e.regs.lines
 }
 
+#[tactic(auto, unfolding(xosera::specs::Blitter::is_constant))]
 fn is_constant(e: Engine) -> bool
     ensures { result ≡ is_constant e }
 {
@@ -75,6 +102,7 @@ fn is_constant(e: Engine) -> bool
 }
 
 // The first mask on a line's first word.
+#[tactic(auto, unfolding(xosera::specs::Blitter::first_mask))]
 pub fn first_mask(e: Engine) -> u16
     ensures { result ≡ first_mask e }
 {
@@ -86,6 +114,7 @@ pub fn first_mask(e: Engine) -> u16
 }
 
 // The last mask on a line's last word.
+#[tactic(auto, unfolding(xosera::specs::Blitter::last_mask))]
 pub fn last_mask(e: Engine) -> u16
     ensures { result ≡ last_mask e }
 {
@@ -97,6 +126,7 @@ pub fn last_mask(e: Engine) -> u16
 }
 
 // The colour test as a spread mask, if it is asked for.
+#[tactic(auto, unfolding(xosera::specs::Blitter::test_mask, words::specs::Spread::spread, xosera::specs::Words::bit))]
 pub fn test_bits(e: Engine, s: u16) -> u16
     ensures { result ≡ spread (test_mask e s) }
 {
@@ -116,6 +146,7 @@ fn write_bits(e: Engine, s: u16) -> u16
 }
 
 // The word that a step takes: the VRAM word at the source address, or none of a constant.
+#[tactic(auto, unfolding(xosera::specs::Blitter::fetched))]
 fn fetch(e: Engine, vram: &[u16]) -> u16
     requires { is_vram_length (length vram.now) ≡ true }
     ensures { result ≡ fetched e vram.now }
@@ -123,11 +154,11 @@ fn fetch(e: Engine, vram: &[u16]) -> u16
     if is_constant(e) {
         return 0;
     }
-    let at = VramAddr(e.regs.srcs);
-    vram::read_word(vram, at)
+    vram::read_word(vram, VramAddr(e.regs.srcs))
 }
 
 // S: the constant, or the word taken, through the shifter.
+#[tactic(auto, unfolding(xosera::specs::Blitter::sourced))]
 pub fn source(e: Engine, word: u16) -> u16
     ensures { result ≡ sourced e word }
 {
@@ -139,7 +170,7 @@ pub fn source(e: Engine, word: u16) -> u16
 }
 
 // The nibbles that the next step writes.
-pub fn next_mask(e: Engine, vram: &[u16]) -> u16
+pub fn next_mask(e: Engine, vram: &[u16]) -> u8
     requires { is_vram_length (length vram.now) ≡ true }
     ensures { result ≡ (drawing e (fetched e vram.now)).mask }
 {
@@ -154,7 +185,9 @@ pub struct Drawn {
     pub bits: u16,
 }
 
-// One word drawn.
+// One word drawn, inlined into the loops over words, which are three times as slow round a call.
+#[inline]
+#[tactic(auto, unfolding(xosera::specs::Blitter::drawn, xosera::specs::Blitter::drawing))]
 pub fn draw(e: Engine, vram: &mut [u16]) -> Drawn
     requires { is_vram_length (length vram.old) ≡ true }
     ensures { DrewOne e vram.old result vram.new }
@@ -163,66 +196,42 @@ pub fn draw(e: Engine, vram: &mut [u16]) -> Drawn
     let s = source(e, word);
     let value = words::combined(s, e.regs.andc, e.regs.xor);
     let bits = write_bits(e, s);
-    let at = VramAddr(e.regs.dstd);
-    vram::store_bits(vram, at, bits, value);
+    vram::store_bits(vram, VramAddr(e.regs.dstd), bits, value);
     Drawn { word, bits }
 }
 
 // The source goes up by 1 unless it is a constant.
+#[tactic(auto, unfolding(xosera::specs::Words::wrap))]
 fn source_up(e: Engine) -> u16
     ensures { result ≡ (if is_constant e then e.regs.srcs else wrap e.regs.srcs 1) }
 {
     if is_constant(e) {
-        return e.regs.srcs;
+        e.regs.srcs
+    } else {
+        e.regs.srcs.wrapping_add(1)
     }
-    std::num::wrapping_add_u16(e.regs.srcs, 1)
 }
 
+#[tactic(auto, unfolding(xosera::specs::Blitter::next_source, xosera::specs::Words::wrap))]
 fn next_source(e: Engine) -> u16
     ensures { result ≡ next_source e }
 {
     let src = source_up(e);
     if last_word(e) {
-        return std::num::wrapping_add_u16(src, e.regs.mods);
+        src.wrapping_add(e.regs.mods)
+    } else {
+        src
     }
-    src
 }
 
+#[tactic(auto, unfolding(xosera::specs::Blitter::next_dest, xosera::specs::Words::wrap))]
 fn next_dest(e: Engine) -> u16
     ensures { result ≡ next_dest e }
 {
-    let dst = std::num::wrapping_add_u16(e.regs.dstd, 1);
+    let dst = e.regs.dstd.wrapping_add(1);
     if last_word(e) {
-        return std::num::wrapping_add_u16(dst, e.regs.modd);
-    }
-    dst
-}
-
-// The engine after a word that is not the blit's last.
-pub fn advance(e: Engine, word: u16) -> Engine
-    requires running { Running e }
-    requires e_value { last_step e ≡ false }
-    ensures { result ≡ next e word }
-{
-    let src = next_source(e);
-    let dst = next_dest(e);
-    let mut regs = e.regs;
-    regs.srcs = src;
-    regs.dstd = dst;
-    if last_word(e) {
-        return Engine {
-            running: 1,
-            line: e.line + 1,
-            word: 0,
-            kept: word,
-            regs,
-        };
-    }
-    Engine {
-        running: 1,
-        line: e.line,
-        word: e.word + 1,
-        kept: word,
-        regs,
+        dst.wrapping_add(e.regs.modd)
+    } else {
+        dst
     }
 }

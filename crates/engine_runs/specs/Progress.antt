@@ -1,7 +1,8 @@
 -- Runs of words of one blit, as the functions keep them.
-use Rattle.std.specs.Prelude.{◌≡◌, true, false, List, ℕ, ◌+◌, ◌≤◌, length}
+use Rattle.std.specs.Prelude.{◌≡◌, List, ℕ, ◌+◌, ◌≤◌, length}
 use Rattle.xosera.specs.declared.Engine.{Engine}
 use Rattle.engine_runs.specs.declared.Ran.{Ran}
+use Rattle.engine_runs.specs.declared.Ran.TheVariants.{Midway, Over}
 use Rattle.xosera.specs.Adapter.{Adapter}
 use Rattle.xosera.specs.Blitter.{moved, blit_ended, steps, engine_left}
 use Rattle.xosera.specs.Ranges.{Running}
@@ -21,6 +22,6 @@ pub record Ended (e : Engine) (v : List ℕ) (n : ℕ) (u : List ℕ) (rest : �
   pub vram-length : length u ≡ length v
 
 -- What a run inside one blit came to: all n steps done, or the blit over.
-pub record RanTo (e : Engine) (v : List ℕ) (n : ℕ) (r : Ran) (u : List ℕ) : Type 0 where
-  pub going : r.over ≡ false → Going e v n r.engine u 0
-  pub over : r.over ≡ true → Ended e v n u r.rest
+abbrev pub RanTo : Engine → List ℕ → ℕ → Ran → List ℕ → Type 0
+RanTo e v n (Midway blit) u = Going e v n blit.engine u 0
+RanTo e v n (Over rest) u = Ended e v n u rest

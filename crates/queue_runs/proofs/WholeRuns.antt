@@ -3,13 +3,11 @@ use mathlib.Core.Path.{◌≡◌, sym, ap, subst, ◌∙◌}
 use mathlib.Core.Bool.{true}
 use Prim.Native.Nat.{ℕ, suc, ◌+◌, ◌-◌, min}
 use native.Mathlib.Omega.{arith}
-use Rattle.xosera.specs.State.{is_set}
 use Rattle.xosera.specs.Adapter.{Adapter, state_of}
-use Rattle.xosera.specs.Blitter.{steps, store_now, nth_mask, words_left}
+use Rattle.xosera.specs.Blitter.{steps, step_mask, nth_mask, words_left}
 use Rattle.xosera.specs.Ranges.{in_range}
-use Rattle.xosera.proofs.StepCases.{running-mask}
 use Rattle.xosera.proofs.RangeLaws.{steps-in-range}
-use Rattle.xosera.proofs.StepLaws.{steps-add, steps-enough, not-before}
+use Rattle.xosera.proofs.StepLaws.{steps-add, steps-enough}
 
 module _ (a : Adapter) (r : in_range (state_of a) ≡ true) (n : ℕ) {d : ℕ} (counted : d ≡ min n (words_left a)) where
   pub none_done : d ≡ 0 → a ≡ steps n a
@@ -18,14 +16,9 @@ module _ (a : Adapter) (r : in_range (state_of a) ≡ true) (n : ℕ) {d : ℕ} 
 
   -- The last of d steps.
   module _ {b : Adapter} (some : suc (d - 1) ≡ d) (first : b ≡ steps (d - 1) a) where
-    runs : is_set (steps (d - 1) a).engine.running ≡ true
-    runs = not-before (d - 1) a r (omega (arith, counted, some))
-
-    pub last-wrote : {m : ℕ} → m ≡ (store_now b).mask → m ≡ nth_mask d a
+    pub last-wrote : {m : ℕ} → m ≡ step_mask b → m ≡ nth_mask d a
     unfolding nth_mask
-    last-wrote e =
-        e ∙ ap (λ (x : Adapter). (store_now x).mask) first ∙ sym (running-mask (steps (d - 1) a) runs)
-        ∙ ap (λ (k : ℕ). nth_mask k a) some
+    last-wrote e = e ∙ ap step_mask first ∙ ap (λ (k : ℕ). nth_mask k a) some
 
     pub all_done : {c : Adapter} → c ≡ steps 1 b → c ≡ steps n a
     all_done e =

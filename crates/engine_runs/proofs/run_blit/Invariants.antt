@@ -4,7 +4,7 @@ use Rattle.engine_runs.specs.Progress.{Going}
 use Rattle.engine_runs.proofs.run_blit.Given as goal
 
 abbrev pub invariant-loop-rest : goal.invariant-loop-rest
-invariant-loop-rest l = Going l.fn.e l.fn.vram l.n l.at l.vram l.rest
+invariant-loop-rest l = Going l.fn.blit.engine l.fn.vram l.n l.at.engine l.vram l.rest
 
 abbrev pub decreases-loop-rest : goal.decreases-loop-rest
 decreases-loop-rest l = l.rest

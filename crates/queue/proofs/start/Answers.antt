@@ -7,9 +7,9 @@ use Rattle.queue.proofs.start.Goals as goal
 
 pub returns-then-was-eq1 : goal.returns-then-was-eq1
 returns-then-was-eq1 c =
-    λ v x. start-queues c.args.s.now c.requires v x (eq-eqb _ 1 c.if-was-eq1.true)
+    λ v x. start-queues c.args.s.now c.told-s v x (eq-eqb _ 1 c.if-was-eq1.true)
 
 pub returns : goal.returns
 returns c =
-    λ v x. start-launches c.args.s.now c.requires v x (ne_eqb _ 1 c.if-was-eq1.false)
-    (c.launch-e.ensures ∙ ap launched c.blit_regs.ensures) c.put_engine.ensures
+    λ v x. start-launches c.args.s.now c.told-s v x (ne_eqb _ 1 c.if-was-eq1.false)
+    (c.launch-blit.ensures ∙ ap launched c.blit_regs.ensures) c.put_engine.ensures

@@ -1,15 +1,12 @@
 -- The running blit, then what is left of the steps on the queued one.
+use Rattle.std.proofs.Common.{arith}
 use Rattle.queue_runs.proofs.TwoBlits.{none_over, run-reached}
 use Rattle.queue_runs.proofs.run_both.Goals as goal
 
-pub returns-then-rest-eq0 : goal.returns-then-rest-eq0
-returns-then-rest-eq0 c =
-    let one = c.run_one-rest.ensures in
-    let two = none_over one c.if-rest-eq0.true in
-    λ x. run-reached one two x
+pub returns-then-rest-gt0 : goal.returns-then-rest-gt0
+returns-then-rest-gt0 c = λ x. run-reached c.run_one-rest.ensures c.run_one.ensures x
 
-pub returns : goal.returns
-returns c =
+pub returns-else-rest-gt0 : goal.returns-else-rest-gt0
+returns-else-rest-gt0 c =
     let one = c.run_one-rest.ensures in
-    let two = c.run_one.ensures in
-    λ x. run-reached one two x
+    λ x. run-reached one (none_over one (omega arith)) x
