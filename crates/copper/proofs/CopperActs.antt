@@ -1,12 +1,13 @@
 -- The parts of a beam step, one after the other, are the whole.
 use Rattle.std.proofs.Common.{◌≡◌, ℕ, ◌+◌, ◌*◌, ◌/◌, ◌%◌, Bool, true, false, cond, ◌&&◌, eqb, List, get_or, sym, refl, ap, ◌∙◌, ap₂, arith}
+use mathlib.Core.Bool.{and_comm}
 use native.Mathlib.Nat.{max-eq_right}
 use lib.Bits.{bit_or, or_step, or_zero_r, or_shr, or_mod}
-use Rattle.xosera.specs.State.{is_set}
+use Rattle.xosera.specs.State.{is_set, word_at, state_at}
 use Rattle.xosera.specs.Fields.{frame_ended, opcode}
 use Rattle.xosera.specs.Beam.{visible_lines, reaches}
 use Rattle.xosera.specs.Memories.{no_store, stored}
-use Rattle.xosera.specs.Adapter.{Side, Adapter}
+use Rattle.xosera.specs.Adapter.{Side, Adapter, adapter_at}
 use Rattle.xosera.specs.Plan.{StatusChange, unchanged, raised, cleared, changed, Act, quiet, perform}
 use Rattle.xosera.specs.XrSpace.{is_blit_register, xr_write}
 use Rattle.xosera.specs.Copper.{copper_on, move, pass, instructions, program_at, instruction, arrived, copper_acts, beam_step}
@@ -21,14 +22,14 @@ quiet_then p s a = refl
 
 -- A move: the copper on by an instruction, then the write, unless it is dropped.
 module _ (full : Bool) (a : Adapter) (at w : ℕ) {b : Adapter} (e : b ≡ perform (quiet (copper_on a.side 2)) a) where
-  pub move-dropped : full && is_blit_register at ≡ true → b ≡ perform (move full a.side at w) a
+  pub move-dropped : is_blit_register at && full ≡ true → b ≡ perform (move full a.side at w) a
   unfolding move
-  move-dropped d = rw d e
+  move-dropped d = rw (and_comm full (is_blit_register at), d) e
 
-  pub move-made : {c : Adapter} → full && is_blit_register at ≡ false → c ≡ perform (xr_write b.side at w) b → c ≡ perform (move full a.side at w) a
+  pub move-made : {c : Adapter} → is_blit_register at && full ≡ false → c ≡ perform (xr_write b.side at w) b → c ≡ perform (move full a.side at w) a
   unfolding move perform
   move-made d k =
-      rw d (k ∙ ap (λ (b : Adapter). perform (xr_write b.side at w) b) e ∙ quiet_then (xr_write (copper_on a.side 2) at w) (copper_on a.side 2) a)
+      rw (and_comm full (is_blit_register at), d) (k ∙ ap (λ (b : Adapter). perform (xr_write b.side at w) b) e ∙ quiet_then (xr_write (copper_on a.side 2) at w) (copper_on a.side 2) a)
 
 -- Status bit 4 set twice is set.
 or-one : (t : ℕ) → bit_or t 1 ≡ t / 2 * 2 + 1
@@ -124,6 +125,14 @@ module _ (a : Adapter) {b : Adapter} (e : b ≡ perform (arrival a.side) a) wher
       k ∙ ap (λ (x : Adapter). perform (instruction (is_set x.queued) x.side) x) e ∙ arrived-running (is_set a.queued) a (sym (ap runs e) ∙ on)
 
 -- The word after the last is the first, also where the sum has wrapped.
-pub program-wraps : (xr : List ℕ) (k : ℕ) → program_at xr ((k + 1) % 65536) ≡ program_at xr (k + 1)
+program-wraps : (xr : List ℕ) (k : ℕ) → program_at xr ((k + 1) % 65536) ≡ program_at xr (k + 1)
 unfolding program_at
 program-wraps xr k = ap (λ (n : ℕ). get_or xr (5632 + n) 0) (omega arith)
+
+-- What was done as the opcode of the first word says is the instruction.
+pub instructed : (ws v xr : List ℕ) (full : Bool) {first second : ℕ} {act : Bool → Side → ℕ → ℕ → Act} {b : Adapter}
+    → first ≡ program_at xr (word_at ws 78) → second ≡ program_at xr ((word_at ws 78 + 1) % 65536)
+    → act ≡ get_or instructions (opcode first) pass
+    → let a = adapter_at ws v xr in b ≡ perform (act full a.side first second) a → b ≡ perform (instruction full a.side) a
+unfolding state_at instruction
+instructed ws v xr full f g e k = rw (← program-wraps xr (word_at ws 78), ← f, ← g, ← e) k

@@ -1,6 +1,6 @@
 -- The ranges of the XR space, and what lies in none of them.
-use mathlib.Core.Path.{◌≡◌, sym, ◌∙◌}
-use mathlib.Core.Bool.{Bool, true, false, and-false}
+use mathlib.Core.Path.{◌≡◌, ◌∙◌}
+use mathlib.Core.Bool.{false, and-false}
 use mathlib.Core.List.{List}
 use Prim.Native.Nat.{ℕ, ◌+◌, ◌≤◌, ◌<◌}
 use native.Mathlib.Omega.{arith}
@@ -8,18 +8,9 @@ use borrow.Author.Tests.{lt-leb, le-ltb}
 use lib.Dec.{leb}
 use lib.ListN.{get_or, take, drop, get_or-eq_default}
 use lib.Seq.{get_or-take, get_or-drop}
+use Rattle.std.proofs.lemmas.Bool.Decides.{nat_tests}
 use Rattle.xosera.specs.State.{Video, Beam}
 use Rattle.xosera.specs.XrSpace.{within, low_registers, register_read}
-use Rattle.xosera.proofs.Branches.{parts}
-
--- A test that the code made is the one that the definition names.
-pub tested : {r b t : Bool} → r ≡ b → r ≡ t → b ≡ t
-tested e h = sym e ∙ h
-
--- An address found inside a range.
-pub inside : (base n a : ℕ) {r : Bool} → r ≡ within base n a → r ≡ true → (base ≤ a) × (a < base + n)
-unfolding within
-inside base n a e h = let k = simp parts at (sym e ∙ h) in (k.0, k.1)
 
 -- A range that does not hold the address.
 pub below-range : (base n a : ℕ) → a < base → within base n a ≡ false
@@ -39,3 +30,6 @@ no_register v b a h =
 -- A word of a part is one of the whole.
 pub part-word : (xs : List ℕ) (from n i : ℕ) → i < n → get_or (take n (drop from xs)) i 0 ≡ get_or xs (from + i) 0
 part-word xs from n i h = get_or-take n (drop from xs) i 0 h ∙ get_or-drop from xs i 0
+
+-- What tests of a range come to, and that no register is past the registers.
+pub ruleset part_tests = (nat_tests, no_register)

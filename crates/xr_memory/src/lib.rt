@@ -1,22 +1,29 @@
-// XR memory by parts: tile, colour and copper. The colour part is lent on by itself.
+// XR memory by parts: tile, colour and copper, and whether an address is the blitter's. The papers ask that an access to colour memory
+// works on the colour part alone, lent on from the middle; the other parts are indexed in place.
 #![tactic(auto)]
 
-ghost use Rattle.std.specs.Prelude.{◌≡◌, ◌<◌, ◌≤◌, length, get_or, set};
-ghost use Rattle.xosera.specs.State.{Video, Beam};
-ghost use Rattle.xosera.specs.XrSpace.{within, xr_read, xr_memory_write};
+ghost use Rattle.std.specs.Prelude.{◌≡◌, ◌&&◌, ◌<◌, ◌≤◌, length, get_or, set};
+ghost use Rattle.xosera.specs.State.{Video, Beam, is_set, state_at};
+ghost use Rattle.xosera.specs.XrSpace.{within, is_blit_register, xr_read, xr_memory_write};
 
-use xosera::XrAddr;
+use xosera::{QUEUED, StateWords, XrAddr, XrWords};
 
 // Whether an address is one of the n from base on.
+#[tactic(auto, using(crate::proofs::Parts::part_tests), unfolding(xosera::specs::XrSpace::within))]
 pub fn within(base: u16, n: u16, a: u16) -> bool
     requires base_bound { base < 50000 }
     requires n_bound { n < 10000 }
     ensures { result ≡ within base n a }
 {
-    if a < base {
-        return false;
-    }
-    a < base + n
+    (base..base + n).contains(&a)
+}
+
+// Whether a write to an address would reach a blitter register while a blit is queued.
+#[tactic(auto, unfolding(xosera::specs::State::state_at, xosera::specs::XrSpace::is_blit_register))]
+pub fn reaches_full(s: &StateWords, a: u16) -> bool
+    ensures { result ≡ (is_blit_register a && is_set (state_at s.now).queued) }
+{
+    within(0x40, 10, a) && s[QUEUED] == 1
 }
 
 // One word of a part of XR memory that is lent by itself.
@@ -35,40 +42,28 @@ fn get_word(part: &[u16], i: usize) -> u16
 }
 
 // A write to XR memory; one outside the three parts is dropped.
-pub fn store(xr: &mut [u16], a: XrAddr, w: u16)
-    requires { length xr.old ≡ 6656 }
+#[tactic(auto, using(crate::proofs::Parts::part_tests), unfolding(xosera::specs::XrSpace::within, xosera::specs::XrSpace::xr_memory_write))]
+pub fn store(xr: &mut XrWords, a: XrAddr, w: u16)
     ensures { xr.new ≡ xr_memory_write xr.old a.0 w }
 {
-    let at = a.0;
-    if within(0x4000, 5120, at) {
-        xr[(at - 0x4000) as usize] = w;
-        return;
-    }
-    if within(0x8000, 512, at) {
-        put_word(&mut xr[5120..5632], (at - 0x8000) as usize, w);
-        return;
-    }
-    if within(0xC000, 1024, at) {
-        xr[5632 + (at - 0xC000) as usize] = w;
-        return;
+    match a.0 {
+        at @ 0x4000..=0x53FF => xr[(at - 0x4000) as usize] = w,
+        at @ 0x8000..=0x81FF => put_word(&mut xr[5120..5632], (at - 0x8000) as usize, w),
+        at @ 0xC000..=0xC3FF => xr[5632 + (at - 0xC000) as usize] = w,
+        _ => {}
     }
 }
 
 // A read of XR memory; outside the three parts it gives 0.
-pub fn load(xr: &[u16], a: XrAddr) -> u16
-    requires xr_len { length xr.now ≡ 6656 }
-    requires le_a { 0x4000 ≤ a.0 }
+#[tactic(auto, using(crate::proofs::Parts::part_tests), unfolding(xosera::specs::XrSpace::within, xosera::specs::XrSpace::xr_read))]
+pub fn load(xr: &XrWords, a: XrAddr) -> u16
+    requires { 0x4000 ≤ a.0 }
     ensures { (v : Video) (b : Beam) → result ≡ xr_read v b xr.now a.0 }
 {
-    let at = a.0;
-    if within(0x4000, 5120, at) {
-        return xr[(at - 0x4000) as usize];
+    match a.0 {
+        at @ 0x4000..=0x53FF => xr[(at - 0x4000) as usize],
+        at @ 0x8000..=0x81FF => get_word(&xr[5120..5632], (at - 0x8000) as usize),
+        at @ 0xC000..=0xC3FF => xr[5632 + (at - 0xC000) as usize],
+        _ => 0,
     }
-    if within(0x8000, 512, at) {
-        return get_word(&xr[5120..5632], (at - 0x8000) as usize);
-    }
-    if within(0xC000, 1024, at) {
-        return xr[5632 + (at - 0xC000) as usize];
-    }
-    0
 }

@@ -1,3 +1,2 @@
 -- Laws of the stored registers that belong to no one function.
 pub mod Registers
-pub mod RegisterPlaces

@@ -1,84 +1,68 @@
 // The stored registers of the XR space, as words of the state.
 #![tactic(auto)]
 
-ghost use Rattle.std.specs.Prelude.{◌≡◌, ◌<◌, length};
+ghost use Rattle.std.specs.Prelude.{◌≡◌, ◌<◌, IfSome};
 ghost use Rattle.xosera.specs.State.{state_words, state_at};
 ghost use Rattle.xosera.specs.XrSpace.{register_read, xr_read};
 ghost use Rattle.xr_registers.specs.Places.{register_place, register_written};
 
 use xosera::{
-    AUD_CTRL, BEAM_LINE, BLIT_REGS, COPP_CTRL, PLAYFIELD_A, PLAYFIELD_B, STATE_WORDS, VID_CTRL,
-    VID_LEFT, VID_RIGHT, XrAddr,
+    AUD_CTRL, BEAM_LINE, BLIT_REGS, COPP_CTRL, PLAYFIELD_A, PLAYFIELD_B, StateWords, VID_CTRL,
+    VID_LEFT, VID_RIGHT, XrAddr, XrWords,
 };
 
-// The word that stands for a stored register; STATE_WORDS where nothing is stored.
-fn register_place(at: u16) -> usize
-    ensures { result ≡ register_place at }
+// The word that stands for a stored register; none where nothing is stored.
+#[tactic(auto, using(std::proofs::lemmas::Bool::Decides::nat_tests), unfolding(xosera::specs::XrSpace::within, crate::specs::Places::register_place))]
+fn register_place(at: u16) -> Option<usize>
+    ensures place { result ≡ register_place at }
+    ensures within { IfSome result (λ i. i < state_words) }
 {
-    if xr_memory::within(0x10, 7, at) {
-        return PLAYFIELD_A + (at - 0x10) as usize;
-    }
-    if xr_memory::within(0x18, 7, at) {
-        return PLAYFIELD_B + (at - 0x18) as usize;
-    }
-    if xr_memory::within(0x40, 10, at) {
-        return BLIT_REGS + (at - 0x40) as usize;
-    }
     match at {
-        0 => VID_CTRL,
-        1 => COPP_CTRL,
-        2 => AUD_CTRL,
-        3 => STATE_WORDS,
-        4 => VID_LEFT,
-        5 => VID_RIGHT,
-        _ => STATE_WORDS,
+        0 => Some(VID_CTRL),
+        1 => Some(COPP_CTRL),
+        2 => Some(AUD_CTRL),
+        4 => Some(VID_LEFT),
+        5 => Some(VID_RIGHT),
+        0x10..=0x16 => Some(PLAYFIELD_A + (at - 0x10) as usize),
+        0x18..=0x1E => Some(PLAYFIELD_B + (at - 0x18) as usize),
+        0x40..=0x49 => Some(BLIT_REGS + (at - 0x40) as usize),
+        _ => None,
     }
 }
 
 // A register read. XR_SCANLINE reads the beam's line, the playfields' LINE_ADDR and the blitter's registers read 0.
-fn register_read(s: &[u16], at: u16) -> u16
-    requires { length s.now ≡ state_words }
+#[tactic(auto, using(crate::proofs::Registers::places), unfolding(xosera::specs::State::state_at, xosera::specs::XrSpace::within, xosera::specs::XrSpace::register_read, xosera::specs::XrSpace::playfield_read))]
+fn register_read(s: &StateWords, at: u16) -> u16
     ensures { result ≡ register_read (state_at s.now).video (state_at s.now).beam at }
 {
-    if at >= 0x20 {
-        return 0;
+    match at {
+        3 => s[BEAM_LINE],
+        0x15 | 0x1D | 0x20..=0xFFFF => 0,
+        _ => match register_place(at) {
+            Some(i) => s[i],
+            None => 0,
+        },
     }
-    if at == 0x15 {
-        return 0;
-    }
-    if at == 0x1D {
-        return 0;
-    }
-    if at == 3 {
-        return s[BEAM_LINE];
-    }
-    let i = register_place(at);
-    if i < STATE_WORDS {
-        return s[i];
-    }
-    0
 }
 
 // A register written; nothing where none is stored.
-pub fn store_register(s: &mut [u16], at: u16, w: u16)
-    requires { length s.old ≡ state_words }
+#[tactic(auto, using(crate::proofs::Registers::places))]
+pub fn store_register(s: &mut StateWords, at: u16, w: u16)
     ensures { state_at s.new ≡ register_written (state_at s.old) at w }
 {
-    let i = register_place(at);
-    if i < STATE_WORDS {
+    if let Some(i) = register_place(at) {
         s[i] = w;
     }
 }
 
 // A read anywhere in the XR space.
-pub fn xr_read(s: &[u16], xr: &[u16], a: XrAddr) -> u16
-    requires s_len { length s.now ≡ state_words }
-    requires xr_len { length xr.now ≡ 6656 }
+#[tactic(auto, using(std::proofs::lemmas::Bool::Decides::nat_tests), unfolding(xosera::specs::XrSpace::within, xosera::specs::XrSpace::xr_read))]
+pub fn xr_read(s: &StateWords, xr: &XrWords, a: XrAddr) -> u16
     ensures { result ≡ xr_read (state_at s.now).video (state_at s.now).beam xr.now a.0 }
 {
-    let at = a.0;
-    if at >= 0x4000 {
-        return xr_memory::load(xr, a);
+    if a.0 >= 0x4000 {
+        xr_memory::load(xr, a)
+    } else {
+        register_read(s, a.0)
     }
-    register_read(s, at)
 }

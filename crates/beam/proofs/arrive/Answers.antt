@@ -15,7 +15,7 @@ use Rattle.beam.proofs.arrive.Goals as goal
 pub overflow_add-position : goal.overflow_add-position
 unfolding state_at
 overflow_add-position c =
-    omega (arith, (beam-facts frame (state_at c.args.s.now).beam c.requires.s_value).position)
+    omega (arith, (beam-facts frame (state_at c.args.s.now).beam c.requires).position)
 
 pub returns-then-position-eq-FRAME_POSITIONS : goal.returns-then-position-eq-FRAME_POSITIONS
 unfolding state_at perform changed stored beam_moved line_ends
@@ -23,12 +23,12 @@ returns-then-position-eq-FRAME_POSITIONS c =
     let ws = c.args.s.now in
     λ v x. c.next_line.ensures v x ∙ rw (eq-eqb (word_at ws 76 + 1) 800 c.if-position-eq-FRAME_POSITIONS.true)
 
-pub returns : goal.returns
+pub returns-else-position-eq-FRAME_POSITIONS : goal.returns-else-position-eq-FRAME_POSITIONS
 unfolding state_at perform changed stored beam_moved line_ends
-returns c =
+returns-else-position-eq-FRAME_POSITIONS c =
     let ws = c.args.s.now in
     let here : Beam = record { line = word_at ws 75; position = word_at ws 76 + 1; running = word_at ws 77; word = word_at ws 78 } in
     let past : (here.position ≡ 0 → ⊥) = λ z. absurd (omega (arith, z)) in
     let stores = (76 takes here.position) ∷ [] in
-    λ v x. stored-adapter ws c.requires.s_len stores refl v x
+    λ v x. stored-adapter ws c.told-s stores refl v x
     ∙ rw (ne_eqb (word_at ws 76 + 1) 800 c.if-position-eq-FRAME_POSITIONS.false, past-reaches-none 0 here past, past-reaches-none 480 here past)

@@ -1,54 +1,45 @@
 -- By the opcode of the first word.
-use Rattle.std.proofs.Common.{◌≡◌, ℕ, ◌+◌, false, sym, ap, ◌∙◌}
-use Rattle.xosera.specs.State.{word_at, state_at}
-use Rattle.xosera.specs.Fields.{opcode}
-use Rattle.xosera.specs.Copper.{program_at, instruction}
-use Rattle.copper.proofs.CopperActs.{program-wraps}
+use Rattle.std.proofs.Common.{false}
+use Rattle.xosera.specs.State.{is_set, state_at}
+use Rattle.copper.proofs.CopperActs.{instructed}
 use Rattle.copper.proofs.instruction.Goals as goal
-use Rattle.copper.proofs.instruction.Goals.{After-opcode, After-program_word-second}
 
--- The two words are those of the program where the copper stands.
-first_word : (c : After-program_word-second) →
-    program_at c.args.xr.now (word_at c.args.s.now 78) ≡ c.program_word-first.result
-first_word c = sym c.program_word-first.ensures
+pub returns-in-Wait : goal.returns-in-Wait
+returns-in-Wait c =
+    λ v. instructed c.args.s.now v c.args.xr.now _ c.program_word-first.ensures c.program_word-second.ensures c.in-Wait.ensures
+    (c.wait.ensures false v _)
 
-second_word : (c : After-program_word-second) →
-    program_at c.args.xr.now (word_at c.args.s.now 78 + 1) ≡ c.program_word-second.result
-second_word c =
-    let xr = c.args.xr.now in
-    sym (program-wraps xr (word_at c.args.s.now 78)) ∙ sym (ap (program_at xr) c.wrapping_add_u16.ensures.value) ∙ sym c.program_word-second.ensures
+pub returns-in-Skip : goal.returns-in-Skip
+returns-in-Skip c =
+    λ v. instructed c.args.s.now v c.args.xr.now _ c.program_word-first.ensures c.program_word-second.ensures c.in-Skip.ensures
+    (c.skip.ensures false v _)
 
--- The opcode that an arm is for.
-is : (c : After-opcode) {k : ℕ} → c.opcode.result ≡ k → opcode c.program_word-first.result ≡ k
-is c e = sym c.opcode.ensures ∙ e
+pub returns-in-Jump : goal.returns-in-Jump
+returns-in-Jump c =
+    λ v. instructed c.args.s.now v c.args.xr.now _ c.program_word-first.ensures c.program_word-second.ensures c.in-Jump.ensures
+    (rw c.jump_word.ensures at (c.jump.ensures v c.args.xr.now))
 
-pub returns-in-0 : goal.returns-in-0
-unfolding state_at instruction
-returns-in-0 c =
-    λ v. rw (first_word (goal.at.returns-in-0 c).After-program_word-second, second_word (goal.at.returns-in-0 c).After-program_word-second, is (goal.at.returns-in-0 c).After-opcode c.in-0.is) (c.wait.ensures false v _)
+pub returns-in-Mover : goal.returns-in-Mover
+returns-in-Mover c =
+    λ v. instructed c.args.s.now v c.args.xr.now _ c.program_word-first.ensures c.program_word-second.ensures c.in-Mover.ensures
+    (rw c.register_number.ensures at (c.move_register.ensures v c.args.xr.now))
 
-pub returns-in-1 : goal.returns-in-1
-unfolding state_at instruction
-returns-in-1 c =
-    λ v. rw (first_word (goal.at.returns-in-1 c).After-program_word-second, second_word (goal.at.returns-in-1 c).After-program_word-second, is (goal.at.returns-in-1 c).After-opcode c.in-1.is) (c.skip.ensures false v _)
+pub returns-in-Movef : goal.returns-in-Movef
+returns-in-Movef c =
+    λ v. instructed c.args.s.now v c.args.xr.now _ c.program_word-first.ensures c.program_word-second.ensures c.in-Movef.ensures
+    (rw c.tile_word.ensures at (c.move_memory.ensures (is_set (state_at c.args.s.now).queued) v))
 
-pub returns-in-2 : goal.returns-in-2
-unfolding state_at instruction
-returns-in-2 c =
-    λ v. rw (first_word (goal.at.returns-in-2 c).After-program_word-second, second_word (goal.at.returns-in-2 c).After-program_word-second, is (goal.at.returns-in-2 c).After-opcode c.in-2.is, sym c.jump_word.ensures) (c.jump.ensures v _)
+pub returns-in-Movep : goal.returns-in-Movep
+returns-in-Movep c =
+    λ v. instructed c.args.s.now v c.args.xr.now _ c.program_word-first.ensures c.program_word-second.ensures c.in-Movep.ensures
+    (rw c.colour_word.ensures at (c.move_memory-in-Movep.ensures (is_set (state_at c.args.s.now).queued) v))
 
-pub returns-in-3 : goal.returns-in-3
-unfolding state_at instruction
-returns-in-3 c =
-    λ v. rw (first_word (goal.at.returns-in-3 c).After-program_word-second, second_word (goal.at.returns-in-3 c).After-program_word-second, is (goal.at.returns-in-3 c).After-opcode c.in-3.is, sym c.register_number.ensures)
-    (c.move_register.ensures v _)
+pub returns-in-Movec : goal.returns-in-Movec
+returns-in-Movec c =
+    λ v. instructed c.args.s.now v c.args.xr.now _ c.program_word-first.ensures c.program_word-second.ensures c.in-Movec.ensures
+    (rw c.program_word.ensures at (c.move_memory-in-Movec.ensures (is_set (state_at c.args.s.now).queued) v))
 
-pub returns-in-7 : goal.returns-in-7
-unfolding state_at instruction
-returns-in-7 c =
-    λ v. rw (first_word (goal.at.returns-in-7 c).After-program_word-second, second_word (goal.at.returns-in-7 c).After-program_word-second, is (goal.at.returns-in-7 c).After-opcode c.in-7.is) (c.go_on.ensures v _)
-
-pub returns-in_default : goal.returns-in_default
-unfolding state_at instruction
-returns-in_default c =
-    λ v. rw (first_word (goal.at.returns-in_default c).After-program_word-second, second_word (goal.at.returns-in_default c).After-program_word-second, c.move_address.ensures.moves _ _ _) (c.move_memory.ensures _ v)
+pub returns-in-Pass : goal.returns-in-Pass
+returns-in-Pass c =
+    λ v. instructed c.args.s.now v c.args.xr.now _ c.program_word-first.ensures c.program_word-second.ensures c.in-Pass.ensures
+    (c.go_on.ensures v _)

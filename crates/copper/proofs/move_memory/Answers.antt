@@ -1,6 +1,5 @@
 -- On by an instruction, then the store.
 use Rattle.std.proofs.Common.{Bool, ◌&&◌, ap, ◌∙◌, arith}
-use mathlib.Core.Bool.{and-false}
 use Rattle.xosera.specs.State.{state_at}
 use Rattle.xosera.specs.XrSpace.{is_blit_register}
 use Rattle.xosera.specs.Adapter.{adapter_at}
@@ -13,10 +12,10 @@ pub returns : goal.returns
 unfolding is_blit_register
 returns c =
     let x = c.args.xr.now in
-    let a = c.args.a in
+    let a = c.args.a.0 in
     let w = c.args.w in
-    let high = c.requires.le_a in
+    let high = c.requires in
     let on = c.go_on.new.s in
     λ full v. move-made full (adapter_at c.args.s.now v x) a w (c.go_on.ensures v x)
-    (ap (λ (b : Bool). full && b) (above-range 0x40 10 a (omega (arith, high))) ∙ and-false full)
+    (ap (λ (b : Bool). b && full) (above-range 0x40 10 a (omega (arith, high))))
     (ap (adapter_at on v) c.store.ensures ∙ memory-write (state_at on) v x a w high)

@@ -5,14 +5,14 @@ use Rattle.xosera.specs.Adapter.{adapter_at}
 use Rattle.copper.proofs.CopperActs.{move-dropped, move-made}
 use Rattle.copper.proofs.move_register.Goals as goal
 
-pub returns-then-dropped : goal.returns-then-dropped
+pub returns-else-not-dropped : goal.returns-else-not-dropped
 unfolding state_at
-returns-then-dropped c =
+returns-else-not-dropped c =
     λ v x. move-dropped _ (adapter_at c.args.s.now v x) c.args.a c.args.w (c.go_on.ensures v x)
-    (sym c.is_dropped-dropped.ensures ∙ c.if-dropped.true)
+    (sym c.reaches_full-dropped.ensures ∙ c.if-not-dropped.false)
 
-pub returns : goal.returns
+pub returns-then-not-dropped : goal.returns-then-not-dropped
 unfolding state_at
-returns c =
+returns-then-not-dropped c =
     λ v x. move-made _ (adapter_at c.args.s.now v x) c.args.a c.args.w (c.go_on.ensures v x)
-    (sym c.is_dropped-dropped.ensures ∙ c.if-dropped.false) (c.write_register.ensures v x)
+    (sym c.reaches_full-dropped.ensures ∙ c.if-not-dropped.true) (c.write_register.ensures v x)

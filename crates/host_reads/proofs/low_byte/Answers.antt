@@ -1,31 +1,18 @@
--- By the arm that was taken.
-use mathlib.Core.Path.{ap, ◌∙◌}
-use Prim.Native.Nat.{ℕ, ◌%◌}
-use native.Mathlib.Omega.{arith}
+-- The nibble mask, the interrupt status and the byte saved are bytes.
+use mathlib.Core.Path.{◌∙◌}
 use Rattle.xosera.specs.State.{state_at}
 use Rattle.xosera.specs.HostBytes.{low_byte}
-use Rattle.host_reads.proofs.ReadTables.{past_three, bytes_of}
+use Rattle.host_reads.proofs.ReadTables.{bytes_of}
 use Rattle.host_reads.proofs.low_byte.Goals as goal
 
-pub returns-in-0 : goal.returns-in-0
+pub returns-in-SysCtrl : goal.returns-in-SysCtrl
 unfolding state_at low_byte
-returns-in-0 c =
-    let bytes = bytes_of (state_at c.args.s.now) c.requires.s_value in
-    rw c.in-0.is (c.low_byte.ensures ∙ bytes.nibbles)
+returns-in-SysCtrl c = rw c.in-SysCtrl.is (c.low_byte.ensures ∙ (bytes_of (state_at c.args.s.now) c.requires).nibbles)
 
-pub returns-in-1 : goal.returns-in-1
+pub returns-in-IntCtrl : goal.returns-in-IntCtrl
 unfolding state_at low_byte
-returns-in-1 c =
-    let bytes = bytes_of (state_at c.args.s.now) c.requires.s_value in
-    rw c.in-1.is (c.low_byte-in-1.ensures ∙ bytes.status)
+returns-in-IntCtrl c = rw c.in-IntCtrl.is (c.low_byte-in-IntCtrl.ensures ∙ (bytes_of (state_at c.args.s.now) c.requires).status)
 
-pub returns-in-2 : goal.returns-in-2
+pub returns-in-Timer : goal.returns-in-Timer
 unfolding state_at low_byte
-returns-in-2 c =
-    let bytes = bytes_of (state_at c.args.s.now) c.requires.s_value in
-    rw c.in-2.is (c.low_byte-in-2.ensures ∙ bytes.saved)
-
-pub returns-in_default : goal.returns-in_default
-unfolding low_byte
-returns-in_default c =
-    c.low_byte-in_default.ensures ∙ ap (λ (w : ℕ). w % 256) c.shown.ensures ∙ past_three _ _ _ _ c.args.reg (omega (arith, c.in_default.in_default-own.rest))
+returns-in-Timer c = rw c.in-Timer.is (c.low_byte-in-Timer.ensures ∙ (bytes_of (state_at c.args.s.now) c.requires).saved)

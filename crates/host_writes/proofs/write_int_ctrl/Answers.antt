@@ -15,5 +15,5 @@ returns c =
     let ws = c.args.s.now in
     let mask = c.int_mask in
     let status = c.int_status in
-    λ v x. stored-adapter ws c.requires ((29 takes mask.result) ∷ (31 takes bit_and (word_at ws 31) (127 - status.result)) ∷ []) refl v x
+    λ v x. stored-adapter ws c.told-s ((29 takes mask.result) ∷ (31 takes bit_and (word_at ws 31) (127 - status.result)) ∷ []) refl v x
     ∙ rw (mask.ensures, status.ensures)

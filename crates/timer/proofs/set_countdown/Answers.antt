@@ -8,4 +8,4 @@ use Rattle.timer.proofs.set_countdown.Goals as goal
 
 pub returns : goal.returns
 unfolding state_at perform changed stored
-returns c = stored-adapter c.args.s.now c.requires ((26 takes c.args.w) ∷ (27 takes c.args.w) ∷ []) refl
+returns c = stored-adapter c.args.s.now c.told-s ((26 takes c.args.w) ∷ (27 takes c.args.w) ∷ []) refl

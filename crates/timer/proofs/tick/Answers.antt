@@ -1,5 +1,5 @@
--- A countdown at its end, one that is stopped, and one that goes on.
-use Rattle.std.proofs.Common.{◌-◌, [], ◌∷◌, refl, ◌∙◌, eq-eqb, ne_eqb}
+-- A countdown that is stopped, one at its end, and one that goes on.
+use Rattle.std.proofs.Common.{◌+◌, ◌-◌, ◌%◌, [], ◌∷◌, refl, ◌∙◌, ne_eqb, arith}
 use lib.Bits.{bit_or}
 use Rattle.xosera.specs.State.{word_at, state_at}
 use Rattle.xosera.specs.Words.{wrap}
@@ -11,23 +11,22 @@ use Rattle.xosera.specs.TimerTick.{ticked, lowered, expires}
 use Rattle.xosera.proofs.WordLaws.{◌takes◌, stored-adapter}
 use Rattle.timer.proofs.tick.Goals as goal
 
-pub returns-then-countdown-eq1 : goal.returns-then-countdown-eq1
+pub returns-in-0 : goal.returns-in-0
 unfolding state_at perform changed stored TimerTick.tick ticked lowered expires wrap
-returns-then-countdown-eq1 c =
+returns-in-0 c =
     let ws = c.args.s.now in
-    let stores = (25 takes c.wrapping_add_u16.result) ∷ (26 takes word_at ws 27) ∷ (31 takes bit_or (word_at ws 31) timer_expired) ∷ [] in
-    λ v x. stored-adapter ws c.requires stores refl v x ∙ rw (c.wrapping_add_u16.ensures.value, eq-eqb (word_at ws 26) 1 c.if-countdown-eq1.true)
+    λ v x. stored-adapter ws c.told-s ((25 takes (word_at ws 25 + 1) % 65536) ∷ []) refl v x ∙ rw c.in-0.is
 
-pub returns-then-countdown-eq0 : goal.returns-then-countdown-eq0
+pub returns-in-1 : goal.returns-in-1
 unfolding state_at perform changed stored TimerTick.tick ticked lowered expires wrap
-returns-then-countdown-eq0 c =
+returns-in-1 c =
     let ws = c.args.s.now in
-    let stores = (25 takes c.wrapping_add_u16.result) ∷ [] in
-    λ v x. stored-adapter ws c.requires stores refl v x ∙ rw (c.wrapping_add_u16.ensures.value, c.if-countdown-eq0.true)
+    let stores = (25 takes (word_at ws 25 + 1) % 65536) ∷ (26 takes word_at ws 27) ∷ (31 takes bit_or (word_at ws 31) timer_expired) ∷ [] in
+    λ v x. stored-adapter ws c.told-s stores refl v x ∙ rw c.in-1.is
 
-pub returns : goal.returns
+pub returns-in_default : goal.returns-in_default
 unfolding state_at perform changed stored TimerTick.tick ticked lowered expires wrap
-returns c =
+returns-in_default c =
     let ws = c.args.s.now in
-    let stores = (25 takes c.wrapping_add_u16.result) ∷ (26 takes word_at ws 26 - 1) ∷ [] in
-    λ v x. stored-adapter ws c.requires stores refl v x ∙ rw (c.wrapping_add_u16.ensures.value, ne_eqb (word_at ws 26) 1 c.if-countdown-eq1.false)
+    let stores = (25 takes (word_at ws 25 + 1) % 65536) ∷ (26 takes word_at ws 26 - 1) ∷ [] in
+    λ v x. stored-adapter ws c.told-s stores refl v x ∙ rw (ne_eqb (word_at ws 26) 1 (grind arith))

@@ -11,4 +11,4 @@ pub returns : goal.returns
 unfolding state_at perform changed stored vram_load vram_loaded
 returns c =
     let stores = (20 takes c.args.a.0) ∷ (23 takes c.read_word-word.result) ∷ [] in
-    λ x. stored-adapter c.args.s.now c.requires.s_len stores refl c.args.vram.now x ∙ rw c.read_word-word.ensures
+    λ x. stored-adapter c.args.s.now c.told-s stores refl c.args.vram.now x ∙ rw c.read_word-word.ensures

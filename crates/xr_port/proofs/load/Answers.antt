@@ -11,4 +11,4 @@ pub returns : goal.returns
 unfolding state_at perform changed stored xr_loaded
 returns c =
     let stores = (16 takes c.args.a.0) ∷ (18 takes c.xr_read-word.result) ∷ [] in
-    λ v. stored-adapter c.args.s.now c.requires.s_len stores refl v c.args.xr.now ∙ rw c.xr_read-word.ensures
+    λ v. stored-adapter c.args.s.now c.told-s stores refl v c.args.xr.now ∙ rw c.xr_read-word.ensures

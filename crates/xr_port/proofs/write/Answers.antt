@@ -1,5 +1,5 @@
 -- The address moved on, then the store at the address as it was.
-use Rattle.std.proofs.Common.{[], ◌∷◌, refl, ap, ◌∙◌}
+use Rattle.std.proofs.Common.{◌+◌, ◌%◌, [], ◌∷◌, refl, ap, ◌∙◌}
 use Rattle.xosera.specs.State.{word_at, state_at}
 use Rattle.xosera.specs.Words.{wrap}
 use Rattle.xosera.specs.Adapter.{Adapter}
@@ -14,6 +14,5 @@ returns c =
     let ws = c.args.s.now in
     let at = word_at ws 17 in
     let w = c.args.w in
-    let moved = stored-adapter ws c.requires.s_len ((17 takes c.wrapping_add_u16.result) ∷ []) refl in
+    let moved = stored-adapter ws c.told-s ((17 takes (word_at ws 17 + 1) % 65536) ∷ []) refl in
     λ v. c.write_xr.ensures v ∙ ap (λ (a : Adapter). perform (xr_write a.side at w) a) (moved v c.args.xr.now)
-    ∙ rw c.wrapping_add_u16.ensures.value

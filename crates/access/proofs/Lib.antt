@@ -1,2 +1,0 @@
--- Laws of accesses that belong to no one function.
-pub mod Past

@@ -1,2 +1,0 @@
--- Laws of positions that belong to no one function.
-pub mod Places

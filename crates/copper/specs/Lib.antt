@@ -1,0 +1,2 @@
+-- Which instruction an opcode of the code is.
+pub mod Opcodes

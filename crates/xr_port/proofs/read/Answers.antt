@@ -1,9 +1,0 @@
--- The address moved on by 1, and the word there loaded.
-use Rattle.xosera.specs.State.{state_at}
-use Rattle.xosera.specs.Words.{wrap}
-use Rattle.xr_port.proofs.read.Goals as goal
-
-pub returns : goal.returns
-unfolding state_at wrap
-returns c =
-    λ v. rw c.wrapping_add_u16.ensures.value at (c.load.ensures v)
