@@ -1,6 +1,9 @@
-// The ranges of the state, in three tests: the registers, the blitter, beam and copper. Every call but reset makes all three. Each is
-// short enough for the compiler to put it into every call, which all in one function are not. Sixteen latches and an idle engine are
-// tested four words at once; the others word by word, because a read of four words waits for a store to any of them.
+// The ranges of the state, in three tests: the registers, the blitter, beam and copper. Every call that is lent a state makes all three,
+// but reset, which takes any; a why and a grey are lent none. Each is short enough for the compiler to put it into every call, which all
+// in one function are not. Sixteen latches and an idle engine are tested four words at once; the others word by word, because a read of
+// four words waits for a store to any of them.
+// Each test returns at once where it fails: with `&&` the compiler makes more of it in every call, and single steps took 17.4 ns against
+// 15.2, byte writes 14 against 13, line questions 6.1 against 5.2.
 #![tactic(auto)]
 
 ghost use Rattle.std.specs.Prelude.{◌≡◌, [], ◌∷◌, ◌+◌, ◌<◌, eqb};
@@ -13,7 +16,7 @@ use xosera::{
     BEAM_LINE, BEAM_POSITION, COPP_CTRL, COPPER_RUNNING, COPPER_WORD, COUNTDOWN, ENGINE_CTRL,
     ENGINE_DST_D, ENGINE_KEPT, ENGINE_LINE, ENGINE_LINES, ENGINE_RUNNING, ENGINE_SRC_S,
     ENGINE_WORD, ENGINE_WORDS, FRAME_LINES, FRAME_POSITIONS, INT_MASK, INTERVAL, LATCHES, NIBBLES,
-    PROGRAM, QUEUED, STATE_WORDS, STATUS, TIMER_SAVED,
+    PROGRAM, QUEUED, STATUS, StateWords, TIMER_SAVED,
 };
 
 // Four words as one number, the first lowest.
@@ -25,7 +28,7 @@ fn packed(a: u16, b: u16, c: u16, d: u16) -> u64
 
 // Four words that stand together. With the place as a parameter the compiler makes one read of this, and keeps it one
 // where it puts the function into its callers.
-fn four(s: &[u16; STATE_WORDS], k: usize) -> u64
+fn four(s: &StateWords, k: usize) -> u64
     requires { k < 72 }
     ensures { Lanes (word_at s.now k) (word_at s.now (k + 1)) (word_at s.now (k + 2))
         (word_at s.now (k + 3)) result }
@@ -34,7 +37,8 @@ fn four(s: &[u16; STATE_WORDS], k: usize) -> u64
 }
 
 // Countdown 1 to its interval, or both 0.
-fn timer_in_range(s: &[u16; STATE_WORDS]) -> bool
+#[tactic(auto, using(crate::proofs::RangeTests::tests), unfolding(xosera::specs::State::state_at, xosera::specs::Ranges::timer_in_range))]
+fn timer_in_range(s: &StateWords) -> bool
     ensures { result ≡ timer_in_range (state_at s.now).host.timer }
 {
     if s[COUNTDOWN] == s[INTERVAL] {
@@ -47,7 +51,7 @@ fn timer_in_range(s: &[u16; STATE_WORDS]) -> bool
 }
 
 // The high bytes of four words that stand together: none where the words are bytes.
-fn high_bytes(s: &[u16; STATE_WORDS], k: usize) -> u64
+fn high_bytes(s: &StateWords, k: usize) -> u64
     requires { k < 72 }
     ensures { eqb result 0 ≡ are_bytes (word_at s.now k ∷ word_at s.now (k + 1) ∷ word_at s.now (k + 2)
         ∷ word_at s.now (k + 3) ∷ []) }
@@ -56,7 +60,7 @@ fn high_bytes(s: &[u16; STATE_WORDS], k: usize) -> u64
 }
 
 // Sixteen latches that are bytes.
-fn latches_in_range(s: &[u16; STATE_WORDS]) -> bool
+fn latches_in_range(s: &StateWords) -> bool
     ensures { result ≡ are_bytes (state_at s.now).host.latches }
 {
     let low = high_bytes(s, LATCHES) | high_bytes(s, LATCHES + 4);
@@ -65,7 +69,8 @@ fn latches_in_range(s: &[u16; STATE_WORDS]) -> bool
 }
 
 // The main registers and the interrupt status, in the order of the definitions.
-pub fn registers_in_range(s: &[u16; STATE_WORDS]) -> bool
+#[tactic(auto, using(crate::proofs::RangeTests::tests), unfolding(xosera::specs::State::state_at, crate::specs::RangeParts::registers_in_range, xosera::specs::Ranges::host_in_range))]
+pub fn registers_in_range(s: &StateWords) -> bool
     ensures { result ≡ registers_in_range (state_at s.now) }
 {
     if s[NIBBLES] > 15 {
@@ -86,7 +91,8 @@ pub fn registers_in_range(s: &[u16; STATE_WORDS]) -> bool
     s[STATUS] <= 127
 }
 
-fn running_in_range(s: &[u16; STATE_WORDS]) -> bool
+#[tactic(auto, using(crate::proofs::RangeTests::tests), unfolding(xosera::specs::State::state_at, xosera::specs::Ranges::running_in_range, xosera::specs::Ranges::starts_empty, xosera::specs::Blitter::first_step))]
+fn running_in_range(s: &StateWords) -> bool
     ensures { result ≡ running_in_range (state_at s.now).engine }
 {
     if s[ENGINE_LINES] > 32767 {
@@ -108,7 +114,7 @@ fn running_in_range(s: &[u16; STATE_WORDS]) -> bool
 }
 
 // The flag and thirteen words that are all 0. Two of them are read twice.
-fn idle_in_range(s: &[u16; STATE_WORDS]) -> bool
+fn idle_in_range(s: &StateWords) -> bool
     ensures { result ≡ idle_in_range (state_at s.now).engine }
 {
     let low = four(s, ENGINE_RUNNING) | four(s, ENGINE_CTRL);
@@ -116,7 +122,8 @@ fn idle_in_range(s: &[u16; STATE_WORDS]) -> bool
     (low | high) == 0
 }
 
-fn engine_in_range(s: &[u16; STATE_WORDS]) -> bool
+#[tactic(auto, using(crate::proofs::RangeTests::tests), unfolding(xosera::specs::State::state_at, xosera::specs::Ranges::engine_in_range))]
+fn engine_in_range(s: &StateWords) -> bool
     ensures { result ≡ engine_in_range (state_at s.now).engine }
 {
     if s[ENGINE_RUNNING] == 1 {
@@ -127,7 +134,8 @@ fn engine_in_range(s: &[u16; STATE_WORDS]) -> bool
 }
 
 // The queue and the engine.
-pub fn blitter_in_range(s: &[u16; STATE_WORDS]) -> bool
+#[tactic(auto, using(crate::proofs::RangeTests::tests), unfolding(xosera::specs::State::state_at, crate::specs::RangeParts::blitter_in_range))]
+pub fn blitter_in_range(s: &StateWords) -> bool
     ensures { result ≡ blitter_in_range (state_at s.now) }
 {
     if s[QUEUED] > s[ENGINE_RUNNING] {
@@ -136,7 +144,8 @@ pub fn blitter_in_range(s: &[u16; STATE_WORDS]) -> bool
     engine_in_range(s)
 }
 
-fn copper_in_range(s: &[u16; STATE_WORDS]) -> bool
+#[tactic(auto, using(crate::proofs::RangeTests::tests), unfolding(xosera::specs::State::state_at, xosera::specs::Ranges::copper_in_range))]
+fn copper_in_range(s: &StateWords) -> bool
     ensures { result ≡ copper_in_range (state_at s.now).video.coppctrl (state_at s.now).beam }
 {
     if s[COPPER_RUNNING] == 1 {
@@ -152,7 +161,8 @@ fn copper_in_range(s: &[u16; STATE_WORDS]) -> bool
 }
 
 // The beam and the copper.
-pub fn beam_in_range(s: &[u16; STATE_WORDS]) -> bool
+#[tactic(auto, using(crate::proofs::RangeTests::tests), unfolding(xosera::specs::State::state_at, crate::specs::RangeParts::beam_copper_in_range, xosera::specs::Ranges::beam_in_range))]
+pub fn beam_in_range(s: &StateWords) -> bool
     ensures { result ≡ beam_copper_in_range (state_at s.now) }
 {
     if s[BEAM_LINE] >= FRAME_LINES {

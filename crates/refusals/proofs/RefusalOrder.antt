@@ -1,15 +1,20 @@
 -- The refusals test by test: 1 to 3 first, and where none of them applies those that follow.
-use mathlib.Core.Path.{◌≡◌, refl, sym, ap₂, ◌∙◌}
+use mathlib.Core.Path.{◌≡◌, refl, sym, ap, ap₂, subst, ◌∙◌}
 use mathlib.Core.Bool.{Bool, true, false, not}
 use mathlib.Core.List.{List, [], ◌∷◌}
 use Prim.Native.Nat.{ℕ, ◌≤◌, ◌<◌}
 use native.Mathlib.Omega.{arith}
 use borrow.Author.Tests.{le-ltb, lt-ltb}
 use lib.ListN.{length}
+use Rattle.std.specs.Prelude.{Result, Ok, Err}
+use Rattle.xosera.specs.declared.MainRegister.{MainRegister}
+use Rattle.xosera.specs.declared.Refusal.{Refusal}
 use Rattle.xosera.specs.State.{State}
+use Rattle.xosera.specs.Told.{MainRegisterOf, refusal_number, refused}
+use Rattle.xosera.proofs.MainRegisters.{main-below}
 use Rattle.xosera.specs.Memories.{is_vram_length, is_xr_length}
 use Rattle.xosera.specs.Adapter.{adapter}
-use Rattle.xosera.specs.Events.{Call, write, read, tick, beam, line, call, step, run}
+use Rattle.xosera.specs.Events.{Event, Call, write, read, tick, beam, line, call, step, run}
 use Rattle.xosera.specs.Ranges.{in_range}
 use Rattle.calls.specs.Refusals.{bad_vram, bad_xr, bad_state, Fit, bad_register, blitter_full, reconfigures, Test, ◌when◌, lent_tests, tests, first, refusal}
 use Rattle.calls.proofs.RefusalLaws.{none-fit}
@@ -58,23 +63,23 @@ pub data OfState : Call → Type 0 where
   a-tick : OfState tick
   a-line : OfState line
 
+-- Those that look at the lengths of the memories too, and at nothing else: blit step, run and beam step.
+pub data OfLent : Event → Type 0 where
+  a-step : OfLent step
+  a-run : {n : ℕ} → OfLent (run n)
+  a-beam : OfLent (call beam)
+
 module _ (s : State) (v x : List ℕ) where
   pub state-refusal : {c : Call} → OfState c → refusal (adapter s v x) (call c) ≡ first ((3 when not (in_range s)) ∷ [])
   unfolding refusal tests bad_state
   state-refusal a-tick = refl
   state-refusal a-line = refl
 
-  pub step-refusal : refusal (adapter s v x) step ≡ lent_refusal (length v) (length x) s
+  pub lent-refusal : {e : Event} → OfLent e → refusal (adapter s v x) e ≡ lent_refusal (length v) (length x) s
   unfolding refusal tests bad_vram bad_xr bad_state lent_refusal
-  step-refusal = refl
-
-  pub beam-refusal : refusal (adapter s v x) (call beam) ≡ lent_refusal (length v) (length x) s
-  unfolding refusal tests bad_vram bad_xr bad_state lent_refusal
-  beam-refusal = refl
-
-  pub run-refusal : (n : ℕ) → refusal (adapter s v x) (run n) ≡ lent_refusal (length v) (length x) s
-  unfolding refusal tests bad_vram bad_xr bad_state lent_refusal
-  run-refusal n = refl
+  lent-refusal a-step = refl
+  lent-refusal a-run = refl
+  lent-refusal a-beam = refl
 
   -- The tests that follow in a read and in a write.
   abbrev pub of_read : ℕ → List Test
@@ -117,6 +122,12 @@ module _ (s : State) (v x : List ℕ) where
       pub read_done : (odd : Bool) → r < 16 → 0 ≡ refusal (adapter s v x) (call (read r odd))
       unfolding refusal tests bad_register first
       read_done odd m = sym (lent-passed (of_read r) z ∙ rw (lt-ltb r 16 m))
+
+      -- The register of a number: refused with 4 where there is none.
+      pub read-register : (odd : Bool) (found : Result MainRegister Refusal) → MainRegisterOf r found →
+          refused found ≡ refusal (adapter s v x) (call (read r odd))
+      read-register odd (Ok reg) m = read_done odd (subst (λ (n : ℕ). n < 16) m (main-below reg))
+      read-register odd (Err e) m = ap refusal_number m.1 ∙ read-over odd m.0
 
       pub write-over : (odd : Bool) (b : ℕ) → 16 ≤ r → 4 ≡ refusal (adapter s v x) (call (write r odd b))
       unfolding refusal tests bad_register first

@@ -2,151 +2,135 @@
 // has tested these ranges already, so that the function is short enough for the compiler to put it into every call.
 #![tactic(auto)]
 
-ghost use Rattle.std.specs.Prelude.{◌≡◌, Bool, true, not, ◌&&◌, List, [], ◌∷◌, ℕ, ◌<◌, ◌≤◌, length, get_or};
-ghost use Rattle.xosera.specs.State.{is_set, state_at};
+ghost use Rattle.std.specs.Prelude.{◌≡◌, Bool, true, not, ◌&&◌, List, [], ◌∷◌, ℕ, ◌≤◌, length, get_or, IfOk};
+ghost use Rattle.xosera.specs.State.{state_at};
 ghost use Rattle.xosera.specs.Adapter.{adapter_at};
-ghost use Rattle.xosera.specs.XrSpace.{is_blit_register};
 ghost use Rattle.xosera.specs.Events.{write, read, call};
+ghost use Rattle.xosera.specs.Told.{main_number, refused};
 ghost use Rattle.xosera.specs.Ranges.{in_range};
 ghost use Rattle.calls.specs.Refusals.{blitter_full, reconfigures, ◌when◌, first, refusal};
 ghost use Rattle.ranges.specs.RangeParts.{registers_in_range, beam_copper_in_range};
 ghost use Rattle.refusals.specs.Tested.{lengths_refusal, lent_refusal};
 
-use xosera::{QUEUED, STATE_WORDS, WR_XADDR};
+use xosera::{MainRegister, Refusal, StateWords, WR_XADDR, XR_WORDS};
 
 // Refusal 3, the only one of a timer tick and the line question.
-pub fn state_refusal(s: &[u16; STATE_WORDS], registers: bool, beam: bool) -> u8
+#[tactic(auto, using(ranges::proofs::AllParts::range_parts), unfolding(calls::specs::Refusals::first))]
+pub fn state_refusal(s: &StateWords, registers: bool, beam: bool) -> Result<(), Refusal>
     requires registers_value { registers ≡ registers_in_range (state_at s.now) }
     requires beam_value { beam ≡ beam_copper_in_range (state_at s.now) }
-    ensures { result ≡ first ((3 when not (in_range (state_at s.now))) ∷ []) }
+    ensures { refused result ≡ first ((3 when not (in_range (state_at s.now))) ∷ []) }
 {
-    if !registers {
-        return 3;
+    if registers && beam && ranges::blitter_in_range(s) {
+        Ok(())
+    } else {
+        Err(Refusal::StateRange)
     }
-    if !beam {
-        return 3;
-    }
-    if ranges::blitter_in_range(s) { 0 } else { 3 }
 }
 
 // Refusals 1 and 2: the lengths of the memories.
-fn lengths_refusal(vram: usize, xr: usize) -> u8
-    ensures { result ≡ lengths_refusal vram xr }
+#[tactic(auto, unfolding(crate::specs::Tested::lengths_refusal, calls::specs::Refusals::first, xosera::specs::Memories::is_xr_length))]
+fn lengths_refusal(vram: usize, xr: usize) -> Result<(), Refusal>
+    ensures { refused result ≡ lengths_refusal vram xr }
 {
     if !vram::is_vram_length(vram) {
-        return 1;
+        return Err(Refusal::VramLength);
     }
-    if xr != 6656 {
-        return 2;
+    if xr != XR_WORDS {
+        return Err(Refusal::XrLength);
     }
-    0
+    Ok(())
 }
 
-// Refusals 1 to 3, those of a blit step, a run and a beam step, and the first of a byte read, a save and a load.
+// Refusals 1 to 3, those of a blit step, a run and a beam step, and the first of a byte read.
 pub fn lent_refusal(
-    s: &[u16; STATE_WORDS],
+    s: &StateWords,
     registers: bool,
     beam: bool,
     vram: usize,
     xr: usize,
-) -> u8
+) -> Result<(), Refusal>
     requires registers_value { registers ≡ registers_in_range (state_at s.now) }
     requires beam_value { beam ≡ beam_copper_in_range (state_at s.now) }
-    ensures { result ≡ lent_refusal vram xr (state_at s.now) }
+    ensures { refused result ≡ lent_refusal vram xr (state_at s.now) }
 {
-    let lengths = lengths_refusal(vram, xr);
-    if lengths != 0 {
-        return lengths;
-    }
+    lengths_refusal(vram, xr)?;
     state_refusal(s, registers, beam)
 }
 
-// Refusals 1 to 4, those of a byte read.
+// The same with all ranges tested here, for a save, a load and a painted line, which take so long that this does not matter.
+pub fn tested_refusal(s: &StateWords, vram: usize, xr: usize) -> Result<(), Refusal>
+    ensures { refused result ≡ lent_refusal vram xr (state_at s.now) }
+{
+    let registers = ranges::registers_in_range(s);
+    let beam = ranges::beam_in_range(s);
+    lent_refusal(s, registers, beam, vram, xr)
+}
+
+// Refusals 1 to 4, those of a byte read; where none applies, the register.
 pub fn read_refusal(
-    s: &[u16; STATE_WORDS],
+    s: &StateWords,
     registers: bool,
     beam: bool,
     vram: usize,
     xr: usize,
     reg: u8,
-) -> u8
+) -> Result<MainRegister, Refusal>
     requires registers_value { registers ≡ registers_in_range (state_at s.now) }
     requires beam_value { beam ≡ beam_copper_in_range (state_at s.now) }
-    ensures { (v x : List ℕ) (odd : Bool) → length v ≡ vram → length x ≡ xr → result ≡ refusal (adapter_at s.now v x) (call (read reg odd)) }
+    ensures register { IfOk result (λ r. main_number r ≡ reg) }
+    ensures number { (v x : List ℕ) (odd : Bool) → length v ≡ vram → length x ≡ xr →
+        refused result ≡ refusal (adapter_at s.now v x) (call (read reg odd)) }
 {
-    let lent = lent_refusal(s, registers, beam, vram, xr);
-    if lent != 0 {
-        return lent;
-    }
-    if reg > 15 {
-        return 4;
-    }
-    0
+    lent_refusal(s, registers, beam, vram, xr)?;
+    MainRegister::try_from(reg)
 }
 
-// Whether XM_XDATA would reach a blitter register while a blit is queued.
-fn is_full(s: &[u16; STATE_WORDS]) -> bool
-    ensures { result ≡ (is_blit_register (state_at s.now).host.xr.wrxaddr.0 && is_set (state_at s.now).queued) }
+// Refusals 5 and 6, those of an odd write alone. The latch is a byte in a state in its ranges, which the words' type does not say.
+#[tactic(auto, unfolding(xosera::specs::State::state_at, calls::specs::Refusals::first, calls::specs::Refusals::blitter_full, calls::specs::Refusals::reconfigures))]
+fn odd_refusal(s: &StateWords, reg: MainRegister, byte: u8) -> Result<(), Refusal>
+    requires { get_or (state_at s.now).host.latches (main_number reg) 0 ≤ 255 }
+    ensures { (v x : List ℕ) → refused result ≡ first ((5 when blitter_full (adapter_at s.now v x) (main_number reg) true) ∷
+        (6 when reconfigures (adapter_at s.now v x) (main_number reg) true byte) ∷ []) }
 {
-    if !xr_memory::within(0x40, 10, s[WR_XADDR]) {
-        return false;
+    match reg {
+        MainRegister::Xdata if xr_memory::reaches_full(s, s[WR_XADDR]) => Err(Refusal::BlitterFull),
+        MainRegister::IntCtrl if fields::is_reconfigure(host_writes::word_written(s, reg, byte)) =>
+            { Err(Refusal::Reconfigure) }
+        _ => Ok(()),
     }
-    s[QUEUED] == 1
-}
-
-// Refusals 5 and 6, those of an odd write alone.
-fn odd_refusal(s: &[u16; STATE_WORDS], reg: u8, byte: u8) -> u8
-    requires reg_bound { reg < 16 }
-    requires reg_bound_2 { get_or (state_at s.now).host.latches reg 0 ≤ 255 }
-    ensures { (v x : List ℕ) → result ≡ first ((5 when blitter_full (adapter_at s.now v x) reg true) ∷
-        (6 when reconfigures (adapter_at s.now v x) reg true byte) ∷ []) }
-{
-    if reg == 5 {
-        return if is_full(s) { 5 } else { 0 };
-    }
-    if reg != 1 {
-        return 0;
-    }
-    if fields::is_reconfigure(host_writes::word_written(s, reg, byte)) {
-        return 6;
-    }
-    0
 }
 
 // Refusal 3 with all ranges tested here.
-fn whole_refusal(s: &[u16; STATE_WORDS]) -> u8
-    ensures { result ≡ first ((3 when not (in_range (state_at s.now))) ∷ []) }
+#[tactic(auto, using(ranges::proofs::AllParts::range_parts), unfolding(calls::specs::Refusals::first))]
+fn whole_refusal(s: &StateWords) -> Result<(), Refusal>
+    ensures { refused result ≡ first ((3 when not (in_range (state_at s.now))) ∷ []) }
 {
     if !ranges::beam_in_range(s) {
-        return 3;
+        return Err(Refusal::StateRange);
     }
     state_refusal(s, ranges::registers_in_range(s), true)
 }
 
-// Refusals 1 to 6, those of a byte write. It tests all ranges itself, behind the lengths: here that is faster.
+// Refusals 1 to 6, those of a byte write; where none applies, the register. It tests all ranges itself, behind the lengths: here that
+// is faster.
 pub fn write_refusal(
-    s: &[u16; STATE_WORDS],
+    s: &StateWords,
     vram: usize,
     xr: usize,
     reg: u8,
     odd: bool,
     byte: u8,
-) -> u8
-    ensures { (v x : List ℕ) → length v ≡ vram → length x ≡ xr → result ≡ refusal (adapter_at s.now v x) (call (write reg odd byte)) }
+) -> Result<MainRegister, Refusal>
+    ensures register { IfOk result (λ r. main_number r ≡ reg) }
+    ensures number { (v x : List ℕ) → length v ≡ vram → length x ≡ xr →
+        refused result ≡ refusal (adapter_at s.now v x) (call (write reg odd byte)) }
 {
-    let lengths = lengths_refusal(vram, xr);
-    if lengths != 0 {
-        return lengths;
+    lengths_refusal(vram, xr)?;
+    whole_refusal(s)?;
+    let reg = MainRegister::try_from(reg)?;
+    if odd {
+        odd_refusal(s, reg, byte)?;
     }
-    let state = whole_refusal(s);
-    if state != 0 {
-        return state;
-    }
-    if reg > 15 {
-        return 4;
-    }
-    if !odd {
-        return 0;
-    }
-    odd_refusal(s, reg, byte)
+    Ok(reg)
 }
