@@ -1,5 +1,5 @@
 // The calls for C: the public calls under the prefix xosera_, the words of the state behind a pointer and each memory as
-// pointer and length.
+// pointer and length. What a call answers as a Result is turned into the struct that C is given.
 #![tactic(auto)]
 
 ghost use Rattle.std.specs.Prelude.{◌≡◌, List, ℕ};
@@ -49,7 +49,7 @@ pub extern "C" fn xosera_write_byte(
         (adapter_at s.new vram.new xr.new) }
     ensures refused { Untouched (of_write result) s.old s.new }
 {
-    adapter::write_byte(s, vram, xr, reg, odd, byte)
+    adapter::write_byte(s, vram, xr, reg, odd, byte).into()
 }
 
 #[unsafe(no_mangle)]
@@ -64,7 +64,7 @@ pub extern "C" fn xosera_read_byte(
         (adapter_at s.new vram.now xr.now) }
     ensures refused { Untouched (of_read result) s.old s.new }
 {
-    adapter::read_byte(s, vram, xr, reg, odd)
+    adapter::read_byte(s, vram, xr, reg, odd).into()
 }
 
 #[unsafe(no_mangle)]
@@ -77,7 +77,7 @@ pub extern "C" fn xosera_blit_step(
         (adapter_at s.new vram.new xr.now) }
     ensures refused { Untouched (of_blit result) s.old s.new }
 {
-    adapter_steps::blit_step(s, vram, xr)
+    adapter_steps::blit_step(s, vram, xr).into()
 }
 
 #[unsafe(no_mangle)]
@@ -91,7 +91,7 @@ pub extern "C" fn xosera_blit_run(
         (adapter_at s.new vram.new xr.now) }
     ensures refused { Untouched (of_blit result) s.old s.new }
 {
-    adapter_steps::blit_run(s, vram, xr, n)
+    adapter_steps::blit_run(s, vram, xr, n).into()
 }
 
 #[unsafe(no_mangle)]
@@ -99,7 +99,7 @@ pub extern "C" fn xosera_timer_tick(s: &mut [u16; STATE_WORDS]) -> StateAnswer
     ensures done { (v x : List ℕ) → Does (adapter_at s.old v x) (call tick) (of_state result) (adapter_at s.new v x) }
     ensures refused { Untouched (of_state result) s.old s.new }
 {
-    adapter_steps::timer_tick(s)
+    adapter_steps::timer_tick(s).into()
 }
 
 #[unsafe(no_mangle)]
@@ -112,14 +112,14 @@ pub extern "C" fn xosera_beam_step(
         (adapter_at s.new vram.now xr.new) }
     ensures refused { Untouched (of_state result) s.old s.new }
 {
-    adapter_steps::beam_step(s, vram, xr)
+    adapter_steps::beam_step(s, vram, xr).into()
 }
 
 #[unsafe(no_mangle)]
 pub extern "C" fn xosera_interrupt_line(s: &[u16; STATE_WORDS]) -> LineAnswer
     ensures { (v x : List ℕ) → Does (adapter_at s.now v x) (call line) (of_line result) (adapter_at s.now v x) }
 {
-    adapter::interrupt_line(s)
+    adapter::interrupt_line(s).into()
 }
 
 #[unsafe(no_mangle)]
@@ -131,7 +131,7 @@ pub extern "C" fn xosera_save(
 ) -> SaveAnswer
     ensures { Saves (adapter_at s.now vram.now xr.now) room.old (of_save result) room.new }
 {
-    saving::save(s, vram, xr, room)
+    saving::save(s, vram, xr, room).into()
 }
 
 #[unsafe(no_mangle)]
@@ -145,7 +145,7 @@ pub extern "C" fn xosera_load(
         (adapter_at s.new vram.new xr.new) }
     ensures refused { Untouched (of_load result) s.old s.new }
 {
-    saving::load(s, vram, xr, file)
+    saving::load(s, vram, xr, file).into()
 }
 
 #[unsafe(no_mangle)]
@@ -171,7 +171,7 @@ pub extern "C" fn xosera_paint(
 ) -> PaintAnswer
     ensures { Paints (adapter_at s.now vram.now xr.now) line pixels.old result.refusal pixels.new }
 {
-    paint::paint(s, vram, xr, line, pixels)
+    paint::paint(s, vram, xr, line, pixels).into()
 }
 
 #[unsafe(no_mangle)]
@@ -192,5 +192,5 @@ pub extern "C" fn xosera_paint_grey(
     ensures { PaintsGrey (adapter_at s.now vram.now xr.now) line pixels.old result.refusal
         pixels.new }
 {
-    paint_grey::paint_grey(s, vram, xr, line, pixels)
+    paint_grey::paint_grey(s, vram, xr, line, pixels).into()
 }

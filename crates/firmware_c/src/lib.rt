@@ -1,5 +1,5 @@
 // The calls of crate `firmware` as a static library for C: each export hands on to the function of its name there, under the same
-// contract.
+// contract. They stand twice because no crate can stand on a static library, and Rattle code calls `firmware`.
 #![tactic(auto)]
 
 ghost use Rattle.std.specs.Prelude.{◌≡◌, List, ℕ};

@@ -1,45 +1,43 @@
 -- Refused, or done.
-use mathlib.Core.Path.{◌≡◌, refl, sym, ◌∙◌}
+use mathlib.Core.Path.{refl, sym}
+use Rattle.std.proofs.lemmas.Option.{MatchOption-at_some}
 use Rattle.xosera.specs.State.{state_at}
-use Rattle.xosera.specs.Adapter.{Adapter, adapter_at}
-use Rattle.xosera.specs.Events.{Event, write, call}
-use Rattle.calls.specs.Refusals.{refusal}
+use Rattle.xosera.specs.Told.{main_number}
+use Rattle.xosera.specs.Adapter.{adapter_at}
 use Rattle.xosera.specs.Acts.{act_of, done, given, wrote}
 use Rattle.xosera.proofs.RangeLaws.{latch-byte}
-use Rattle.calls.proofs.RefusalLaws.{accepted-in-range}
-use Rattle.refusals.proofs.Accepted.{write-fit}
+use Rattle.calls.specs.Refusals.{Fit}
 use Rattle.masks.proofs.AnsweredMasks.{write-mask-four}
-use Rattle.calls.proofs.Promised.{byte_mask, refused, performed}
-use borrow.Author.Rules.{rules}
+use Rattle.calls.proofs.Promised.{byte_mask, performed}
+use Rattle.refusals.proofs.Accepted.{handed-on, write-fit}
 use Rattle.adapter.proofs.write_byte.Goals as goal
-use Rattle.adapter.proofs.write_byte.Goals.{After-write_refusal-refusal, Else-refusal-ne0}
+use Rattle.adapter.proofs.write_byte.Goals.{In_ok-reg}
 
-abbrev here : After-write_refusal-refusal → Adapter
-here c = let a = c.args in adapter_at a.s.now a.vram.now a.xr.now
+fit : (c : In_ok-reg) → let a = c.args in Fit (adapter_at a.s.now a.vram.now a.xr.now)
+fit c = let a = c.args in write-fit _ a.reg a.odd a.byte (c.in_ok-reg.ensures.number a.vram.now a.xr.now refl refl)
 
-abbrev event : After-write_refusal-refusal → Event
-event c = let a = c.args in call (write a.reg a.odd a.byte)
-
-tested : (c : After-write_refusal-refusal) → c.write_refusal-refusal.result ≡ refusal (here c) (event c)
-tested c = let a = c.args in c.write_refusal-refusal.ensures a.vram.now a.xr.now refl refl
-
-accepted : (c : Else-refusal-ne0) → refusal (here (goal.at.Else-refusal-ne0 c).After-write_refusal-refusal) (event (goal.at.Else-refusal-ne0 c).After-write_refusal-refusal) ≡ 0
-accepted c = sym (tested (goal.at.Else-refusal-ne0 c).After-write_refusal-refusal) ∙ c.if-refusal-ne0.false
-
-pub returns-then-refusal-ne0 : goal.returns-then-refusal-ne0
-returns-then-refusal-ne0 c = record { done = refused (here (goal.at.returns-then-refusal-ne0 c).After-write_refusal-refusal) (event (goal.at.returns-then-refusal-ne0 c).After-write_refusal-refusal) _ (tested (goal.at.returns-then-refusal-ne0 c).After-write_refusal-refusal) c.if-refusal-ne0.true; refused = λ _. refl }
-
-pub write-requires : goal.write-requires
-write-requires c =
+pub returns-in_err-reg-clause-done : goal.returns-in_err-reg-clause-done
+returns-in_err-reg-clause-done c =
     let a = c.args in
-    let fit = write-fit (here (goal.at.write-requires c).After-write_refusal-refusal) a.reg a.odd a.byte (accepted (goal.at.write-requires c).Else-refusal-ne0) in
-    record { s_len = search rules; vram_value = fit.0.vram; xr_len = fit.0.xr; reg_bound = fit.1; reg_bound_2 = latch-byte (state_at a.s.now) a.reg fit.0.state }
+    handed-on _ _ _ (c.in_err-reg.ensures.number a.vram.now a.xr.now refl refl) _ c.from_residual.ensures.1 _
 
-pub returns : goal.returns
+pub unwrap-xr-requires : goal.unwrap-xr-requires
+unwrap-xr-requires c = c.as_mut_array.ensures.variant.1 (fit (goal.at.unwrap-xr-requires c).In_ok-reg).xr
+
+pub write-mask-requires-clause-vram_value : goal.write-mask-requires-clause-vram_value
+write-mask-requires-clause-vram_value c = (fit (goal.at.write-mask-requires-clause-vram_value c).In_ok-reg).vram
+
+pub write-mask-requires-clause-latch : goal.write-mask-requires-clause-latch
+write-mask-requires-clause-latch c =
+    latch-byte (state_at c.args.s.now) (main_number c.in_ok-reg.reg) (fit (goal.at.write-mask-requires-clause-latch c).In_ok-reg).state
+
+pub returns-clause-done : goal.returns-clause-done
 unfolding done act_of given wrote
-returns c =
+returns-clause-done c =
     let a = c.args in
-    let ok = accepted (goal.at.returns c).Else-refusal-ne0 in
-    let four = write-mask-four (here (goal.at.returns c).After-write_refusal-refusal) a.reg a.odd a.byte (accepted-in-range (here (goal.at.returns c).After-write_refusal-refusal) (event (goal.at.returns c).After-write_refusal-refusal) ok) in
-    let done = c.write.ensures in
-    record { done = performed (here (goal.at.returns c).After-write_refusal-refusal) (event (goal.at.returns c).After-write_refusal-refusal) 0 _ _ ok refl (byte_mask c.low_byte-mask.ensures done.mask four) done.done; refused = λ n. absurd (n refl) }
+    let told = c.in_ok-reg.ensures in
+    let four = write-mask-four (adapter_at a.s.now a.vram.now a.xr.now) a.reg a.odd a.byte (fit (goal.at.returns-clause-done c).In_ok-reg).state in
+    let same = (MatchOption-at_some _ _ _ c.unwrap-xr.ensures c.as_mut_array.ensures.cases).same in
+    let by = c.write-mask.ensures in
+    performed _ _ 0 _ _ (sym (told.number a.vram.now a.xr.now refl refl)) refl
+    (byte_mask c.low_byte.ensures (rw (← told.register, ← same) by.mask) four) (rw (← told.register, ← same) by.done)

@@ -1,39 +1,28 @@
 -- Refused, or the beam one pixel on.
-use mathlib.Core.Path.{◌≡◌, refl, sym, ◌∙◌}
-use Rattle.xosera.specs.State.{state_at}
-use Rattle.xosera.specs.Adapter.{Adapter, adapter_at, state_of}
-use Rattle.xosera.specs.Events.{beam, call}
-use Rattle.calls.specs.Refusals.{refusal}
+use mathlib.Core.Path.{refl, sym}
+use Rattle.std.proofs.lemmas.Option.{MatchOption-at_some}
+use Rattle.xosera.specs.Events.{beam}
 use Rattle.xosera.specs.Acts.{act_of, done, given}
 use Rattle.xosera.proofs.RangeLaws.{in-range-beam}
-use Rattle.refusals.proofs.Accepted.{beam-fit}
-use Rattle.refusals.proofs.RefusalOrder.{beam-refusal}
 use Rattle.masks.proofs.AnsweredMasks.{call-wrote}
-use Rattle.calls.proofs.Promised.{refused, performed}
-use borrow.Author.Rules.{rules}
+use Rattle.calls.proofs.Promised.{performed}
+use Rattle.refusals.proofs.Accepted.{lent-refused, lent-accepted, accepted-fit}
+use Rattle.refusals.proofs.RefusalOrder.{a-beam}
 use Rattle.adapter_steps.proofs.beam_step.Goals as goal
-use Rattle.adapter_steps.proofs.beam_step.Goals.{After-lent_refusal-refusal, Else-refusal-ne0}
 
-abbrev here : After-lent_refusal-refusal → Adapter
-here c = let a = c.args in adapter_at a.s.now a.vram.now a.xr.now
+pub returns-in_err-lent_refusal-clause-done : goal.returns-in_err-lent_refusal-clause-done
+returns-in_err-lent_refusal-clause-done c =
+    lent-refused _ _ _ a-beam _ c.in_err-lent_refusal.ensures _ c.from_residual.ensures.1 _
 
-tested : (c : After-lent_refusal-refusal) → c.lent_refusal-refusal.result ≡ refusal (here c) (call beam)
-tested c = let a = c.args in c.lent_refusal-refusal.ensures ∙ sym (beam-refusal (state_at a.s.now) a.vram.now a.xr.now)
-
-accepted : (c : Else-refusal-ne0) → refusal (here (goal.at.Else-refusal-ne0 c).After-lent_refusal-refusal) (call beam) ≡ 0
-accepted c = sym (tested (goal.at.Else-refusal-ne0 c).After-lent_refusal-refusal) ∙ c.if-refusal-ne0.false
-
-pub returns-then-refusal-ne0 : goal.returns-then-refusal-ne0
-returns-then-refusal-ne0 c = record { done = refused (here (goal.at.returns-then-refusal-ne0 c).After-lent_refusal-refusal) (call beam) _ (tested (goal.at.returns-then-refusal-ne0 c).After-lent_refusal-refusal) c.if-refusal-ne0.true; refused = λ _. refl }
+pub unwrap-requires : goal.unwrap-requires
+unwrap-requires c = c.as_mut_array.ensures.variant.1 (accepted-fit _ _ _ c.in_ok-lent_refusal.ensures).xr
 
 pub beam_step-requires : goal.beam_step-requires
-beam_step-requires c =
-    let fit = beam-fit (here (goal.at.beam_step-requires c).After-lent_refusal-refusal) (accepted (goal.at.beam_step-requires c).Else-refusal-ne0) in
-    record { s_len = search rules; xr_len = fit.xr; s_value = in-range-beam (state_of (here (goal.at.beam_step-requires c).After-lent_refusal-refusal)) fit.state }
+beam_step-requires c = in-range-beam _ (accepted-fit _ _ _ c.in_ok-lent_refusal.ensures).state
 
-pub returns : goal.returns
+pub returns-clause-done : goal.returns-clause-done
 unfolding done act_of given
-returns c =
-    let a = here (goal.at.returns c).After-lent_refusal-refusal in
-    let vram = c.args.vram.now in
-    record { done = performed a (call beam) 0 0 _ (accepted (goal.at.returns c).Else-refusal-ne0) refl (sym (call-wrote a beam)) (c.beam_step.ensures vram); refused = λ n. absurd (n refl) }
+returns-clause-done c =
+    let same = (MatchOption-at_some _ _ _ c.unwrap.ensures c.as_mut_array.ensures.cases).same in
+    performed _ _ 0 0 _ (lent-accepted _ _ _ a-beam c.in_ok-lent_refusal.ensures) refl (sym (call-wrote _ beam))
+    (rw (← same) (c.beam_step.ensures c.args.vram.now))
