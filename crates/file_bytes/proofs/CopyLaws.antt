@@ -1,29 +1,52 @@
--- Bytes that are filled from words, and words from bytes, pair by pair as a loop does it.
-use mathlib.Core.Path.{◌≡◌, ap, ◌∙◌}
-use mathlib.Core.List.{List}
-use Prim.Native.Nat.{ℕ, suc, ◌+◌, ◌*◌, ◌/◌, ◌%◌, ◌<◌}
+-- Bytes from words and words from bytes, one word more at a time.
+use mathlib.Core.Path.{◌≡◌, refl, ap}
+use mathlib.Core.List.{List, [], ◌∷◌, ◌++◌}
+use Prim.Native.Nat.{ℕ, zero, suc, ◌+◌, ◌*◌, ◌/◌, ◌%◌, ◌^◌, ◌≤◌, ◌<◌}
 use native.Mathlib.Omega.{arith}
-use lib.ListN.{length, get_or, set}
-use Rattle.xosera.proofs.FilledLists.{over, over-next}
+use borrow.Rule.Slice.PartMut.{put_mid}
+use lib.ListN.{length, take, get_or}
+use mir.Syntax.{w32}
+use Rattle.std.specs.Int.{to_be_bytes}
+use Rattle.std.specs.Simd.{first_chunks}
+use Rattle.std.proofs.lemmas.Grind.{common_steps}
+use Rattle.std.proofs.lemmas.List.{take_more}
+use Rattle.std.proofs.lemmas.Slice.{take-put_mid}
 use Rattle.saved_file.specs.SavedFile.{bytes_of, words_of}
-use Rattle.saved_file.proofs.ByteLaws.{bytes-length, high-byte-at, low-byte-at, words-length, word-at-pair}
+use Rattle.saved_file.proofs.ByteLaws.{words-half}
 
--- A word's two bytes put behind those of the words before it.
-pub put_next : (ws d : List ℕ) (i : ℕ) → length d ≡ 2 * length ws → i < length ws
-    → set (set (over (2 * i) (bytes_of ws) d) (2 * i) (get_or ws i 0 / 256)) (2 * i + 1) (get_or ws i 0 % 256) ≡ over (2 * (i + 1)) (bytes_of ws) d
-put_next ws d i h l =
-    let size = bytes-length ws in
-    let first : set (over (2 * i) (bytes_of ws) d) (2 * i) (get_or ws i 0 / 256) ≡ over (suc (2 * i)) (bytes_of ws) d =
-    rw (← high-byte-at ws i) (over-next (bytes_of ws) d (2 * i) (omega arith) (omega arith)) in
-    let second : set (over (suc (2 * i)) (bytes_of ws) d) (suc (2 * i)) (get_or ws i 0 % 256) ≡ over (suc (suc (2 * i))) (bytes_of ws) d =
-    rw (← low-byte-at ws i) (over-next (bytes_of ws) d (suc (2 * i)) (omega arith) (omega arith)) in
-    let e : 2 * i + 1 ≡ suc (2 * i) = omega arith in
-    let f : 2 * (i + 1) ≡ suc (suc (2 * i)) = omega arith in
-    rw (e, f) (ap (λ (l : List ℕ). set l (suc (2 * i)) (get_or ws i 0 % 256)) first ∙ second)
+bytes-append : (ws vs : List ℕ) → bytes_of (ws ++ vs) ≡ bytes_of ws ++ bytes_of vs
+unfolding bytes_of
+bytes-append [] vs = refl
+bytes-append (w ∷ ws) vs = ap (λ (bs : List ℕ). w / 256 ∷ w % 256 ∷ bs) (bytes-append ws vs)
 
--- A pair's word put behind those of the pairs before it.
-pub get-next : (bs d : List ℕ) (i : ℕ) → length bs ≡ 2 * length d → i < length d
-    → set (over i (words_of bs) d) i (get_or bs (2 * i) 0 * 256 + get_or bs (2 * i + 1) 0) ≡ over (i + 1) (words_of bs) d
-get-next bs d i h l =
-    let e : i + 1 ≡ suc i = omega arith in
-    rw (e, ← word-at-pair bs i (length d) h l) (over-next (words_of bs) d i (omega (arith, words-length bs (length d) h)) l)
+-- The two bytes of a word, put behind those of the words before it.
+pub put_next : (part ws pair : List ℕ) (i k : ℕ) → take (2 * i) part ≡ bytes_of (take i ws) → 2 * i ≤ length part → i < length ws
+    → pair ≡ get_or ws i 0 / 256 % 256 ∷ get_or ws i 0 % 256 ∷ [] → get_or ws i 0 < 65536
+    → take (2 * (i + 1)) (put_mid (2 * i) k part pair) ≡ bytes_of (take (i + 1) ws)
+unfolding bytes_of
+put_next part ws pair i k before room l e fits =
+    let high : get_or ws i 0 / 256 % 256 ≡ get_or ws i 0 / 256 = omega arith in
+    let two : 2 * (i + 1) ≡ 2 * i + length pair = rw e (omega arith) in
+    rw (take-put_mid (2 * i) k part pair (2 * (i + 1)) two room, take_more ws i 0 l, bytes-append, before, e, high) refl
+
+-- A word by its pair of bytes.
+pub word_of_pair : (n : ℕ) (bs : List ℕ) (i : ℕ) → length bs ≡ 2 * n → i < n
+    → get_or (get_or (first_chunks 2 n bs) i []) 0 0 * 256 + get_or (get_or (first_chunks 2 n bs) i []) 1 0 ≡ get_or (words_of bs) i 0
+unfolding words_of
+word_of_pair zero bs i h l = absurd (omega arith)
+word_of_pair (suc n) [] i h l = absurd (omega arith)
+word_of_pair (suc n) (b ∷ []) i h l = absurd (omega arith)
+word_of_pair (suc n) (h ∷ l ∷ bs) zero e k = refl
+word_of_pair (suc n) (h ∷ l ∷ bs) (suc i) e k = word_of_pair n bs i (omega arith) (omega arith)
+
+-- The bytes of a number of 32 bits are those of its two words.
+pub four_bytes : (n : ℕ) → n < 2 ^ 32 → to_be_bytes w32 n ≡ bytes_of (n / 65536 ∷ n % 65536 ∷ [])
+unfolding bytes_of
+four_bytes n h =
+    let top : n / 16777216 % 256 ≡ n / 65536 / 256 = omega arith in
+    let second : n / 65536 % 256 ≡ n / 65536 % 256 = refl in
+    let third : n / 256 % 256 ≡ n % 65536 / 256 = omega arith in
+    let last : n % 256 ≡ n % 65536 % 256 = omega arith in
+    rw (top, third, last) refl
+
+pub ruleset words_read = (common_steps, word_of_pair, words-half)

@@ -1,3 +1,2 @@
--- Laws of copies and of rooms that are filled part after part.
+-- Laws of copies.
 pub mod CopyLaws
-pub mod RoomLaws

@@ -1,114 +1,87 @@
-// A saved adapter's bytes: words, the contents and their test. Each function works on a part of the file that is as long as
-// what stands there.
+// A saved adapter's bytes: words, the contents and their test.
 #![tactic(auto)]
 
-ghost use Rattle.std.specs.Prelude.{◌≡◌, [], ◌∷◌, ◌+◌, ◌*◌, ◌/◌, ◌%◌, ◌<◌, length, get_or, set};
+ghost use Rattle.std.specs.Prelude.{◌≡◌, [], ◌∷◌, ◌*◌, length};
 ghost use Rattle.saved_file.specs.SavedFile.{bytes_of, words_of, entry, contents, same_bytes};
 
-// Where the bodies of state, XR memory and VRAM start.
-pub const STATE_START: usize = 28;
-
-pub const XR_START: usize = 178;
-
-pub const VRAM_START: usize = 13490;
+use xosera::XR_WORDS;
 
 // The words of a state that a file has: those before beam and copper.
 pub const FORM_1_WORDS: usize = 75;
 
-// A word at a place, high byte first.
-fn put_word(part: &mut [u8], at: usize, w: u16)
-    requires { at + 1 < length part.old }
-    ensures { part.new ≡ set (set part.old at (w / 256)) (at + 1) (w % 256) }
-{
-    part[at] = (w / 256) as u8;
-    part[at + 1] = (w % 256) as u8;
-}
+// How many bytes the state and XR memory have.
+pub const STATE_BYTES: usize = 2 * FORM_1_WORDS;
 
-fn word_at(part: &[u8], at: usize) -> u16
-    requires { at + 1 < length part.now }
-    ensures { result ≡ get_or part.now at 0 * 256 + get_or part.now (at + 1) 0 }
-{
-    part[at] as u16 * 256 + part[at + 1] as u16
-}
+const XR_BYTES: usize = 2 * XR_WORDS;
 
-// Words to bytes.
+// Where the bodies of state, XR memory and VRAM start: behind the contents, without gaps.
+pub const STATE_START: usize = 28;
+
+pub const XR_START: usize = STATE_START + STATE_BYTES;
+
+pub const VRAM_START: usize = XR_START + XR_BYTES;
+
+// How many sections there are, and their kinds: bytes that stand once each in the contents.
+const SECTIONS: u8 = 3;
+
+const STATE: u8 = 1;
+
+const XR_MEMORY: u8 = 2;
+
+const VRAM: u8 = 3;
+
+// Words to bytes, the high byte first. Each pair is put by its place: of a part lent in chunks the check keeps the length alone.
+#[tactic(auto, using(crate::proofs::CopyLaws::put_next), unfolding(saved_file::specs::SavedFile::bytes_of))]
 pub fn put_words(part: &mut [u8], words: &[u16])
     requires { length part.old ≡ 2 * length words.now }
     ensures { part.new ≡ bytes_of words.now }
 {
-    let mut i = 0;
-    while i < words.len() {
-        put_word(part, 2 * i, words[i]);
-        i += 1;
+    for (i, w) in words.iter().enumerate() {
+        part[2 * i..2 * i + 2].copy_from_slice(&w.to_be_bytes());
     }
 }
 
-// Bytes to words.
+// Bytes to words, each by the place of its pair: of words lent to a `zip` the check keeps nothing.
+#[tactic(auto, using(crate::proofs::CopyLaws::words_read))]
 pub fn get_words(part: &[u8], words: &mut [u16])
     requires { length part.now ≡ 2 * length words.old }
     ensures { words.new ≡ words_of part.now }
 {
-    let mut i = 0;
-    while i < words.len() {
-        words[i] = word_at(part, 2 * i);
-        i += 1;
+    let (pairs, _) = part.as_chunks();
+    for (i, w) in words.iter_mut().enumerate() {
+        *w = u16::from_be_bytes(pairs[i]);
     }
-}
-
-// The four words of a section's start and length.
-fn numbers(start: u32, size: u32) -> [u16; 4]
-    ensures { result ≡ start / 65536 ∷ start % 65536 ∷ size / 65536 ∷ size % 65536 ∷ [] }
-{
-    [
-        (start / 65536) as u16,
-        (start % 65536) as u16,
-        (size / 65536) as u16,
-        (size % 65536) as u16,
-    ]
 }
 
 // A section's entry in the contents.
-fn put_entry(part: &mut [u8], kind: u8, start: u32, size: u32)
-    requires { length part.old ≡ 9 }
-    ensures { part.new ≡ entry kind start size }
+#[tactic(auto, using(crate::proofs::CopyLaws::four_bytes), unfolding(saved_file::specs::SavedFile::entry, saved_file::specs::SavedFile::bytes_of))]
+fn entry(kind: u8, start: u32, size: u32) -> [u8; 9]
+    ensures { result ≡ entry kind start size }
 {
-    let words = numbers(start, size);
-    part[0] = kind;
-    put_words(&mut part[1..9], &words);
+    let mut bytes = [0; 9];
+    bytes[0] = kind;
+    bytes[1..5].copy_from_slice(&start.to_be_bytes());
+    bytes[5..9].copy_from_slice(&size.to_be_bytes());
+    bytes
 }
 
 // The contents of a file whose VRAM is so many bytes long.
-pub fn put_contents(part: &mut [u8], vram: u32)
-    requires { length part.old ≡ 28 }
-    ensures { part.new ≡ contents (150 ∷ 13312 ∷ vram ∷ []) }
+#[tactic(auto, unfolding(saved_file::specs::SavedFile::contents, saved_file::specs::SavedFile::entries, saved_file::specs::SavedFile::entry, saved_file::specs::SavedFile::bytes_of))]
+pub fn contents(vram: u32) -> [u8; STATE_START]
+    ensures { result ≡ contents (150 ∷ 13312 ∷ vram ∷ []) }
 {
-    part[0] = 3;
-    put_entry(&mut part[1..10], 1, 28, 150);
-    put_entry(&mut part[10..19], 2, 178, 13312);
-    put_entry(&mut part[19..28], 3, 13490, vram);
-}
-
-// Whether two parts are the same, byte for byte.
-fn same(a: &[u8], b: &[u8]) -> bool
-    requires { length a.now ≡ length b.now }
-    ensures { result ≡ same_bytes a.now b.now }
-{
-    let mut i = 0;
-    while i < a.len() {
-        if a[i] != b[i] {
-            return false;
-        }
-        i += 1;
-    }
-    true
+    let mut bytes = [0; STATE_START];
+    bytes[0] = SECTIONS;
+    bytes[1..10].copy_from_slice(&entry(STATE, STATE_START as u32, STATE_BYTES as u32));
+    bytes[10..19].copy_from_slice(&entry(XR_MEMORY, XR_START as u32, XR_BYTES as u32));
+    bytes[19..28].copy_from_slice(&entry(VRAM, VRAM_START as u32, vram));
+    bytes
 }
 
 // Whether these are the contents of a file whose VRAM is so many bytes long.
+#[tactic(auto, using(saved_file::proofs::SameLaws::pairwise_same))]
 pub fn are_contents(part: &[u8], vram: u32) -> bool
-    requires { length part.now ≡ 28 }
     ensures { result ≡ same_bytes (contents (150 ∷ 13312 ∷ vram ∷ [])) part.now }
 {
-    let mut wanted = [0u8; STATE_START];
-    put_contents(&mut wanted, vram);
-    same(&wanted, part)
+    contents(vram).as_slice() == part
 }

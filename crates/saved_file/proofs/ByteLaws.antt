@@ -1,9 +1,9 @@
 -- Words as bytes and back: lengths, each byte and each word by its place, and that both ways undo each other.
 use mathlib.Core.Path.{◌≡◌, refl, sym, ap, ap₂, ◌∙◌}
 use mathlib.Core.List.{List, [], ◌∷◌, ◌++◌}
-use Prim.Native.Nat.{ℕ, zero, suc, ◌+◌, ◌*◌, ◌/◌, ◌%◌, ◌<◌}
+use Prim.Native.Nat.{ℕ, zero, suc, ◌+◌, ◌*◌, ◌/◌, ◌<◌}
 use native.Mathlib.Omega.{arith}
-use lib.ListN.{length, take, drop, get_or}
+use lib.ListN.{length, take, drop}
 use lib.Seq.{get_or-drop}
 use Rattle.saved_file.specs.SavedFile.{bytes_of, words_of}
 use Rattle.saved_file.specs.Claims.{AllBelow}
@@ -16,20 +16,7 @@ unfolding bytes_of
 bytes-length [] = refl
 bytes-length (w ∷ ws) = ap (λ (n : ℕ). suc (suc n)) (bytes-length ws) ∙ sym (twice (length ws))
 
--- The two bytes of each word.
-pub high-byte-at : (ws : List ℕ) (i : ℕ) → get_or (bytes_of ws) (2 * i) 0 ≡ get_or ws i 0 / 256
-unfolding bytes_of
-high-byte-at [] i = refl
-high-byte-at (w ∷ ws) zero = refl
-high-byte-at (w ∷ ws) (suc i) = rw (twice i) (high-byte-at ws i)
-
-pub low-byte-at : (ws : List ℕ) (i : ℕ) → get_or (bytes_of ws) (suc (2 * i)) 0 ≡ get_or ws i 0 % 256
-unfolding bytes_of
-low-byte-at [] i = refl
-low-byte-at (w ∷ ws) zero = refl
-low-byte-at (w ∷ ws) (suc i) = rw (twice i) (low-byte-at ws i)
-
--- As many words as there are pairs of bytes, each by its pair.
+-- As many words as there are pairs of bytes.
 pub words-half : (bs : List ℕ) → length (words_of bs) ≡ length bs / 2
 unfolding words_of
 words-half [] = refl
@@ -38,16 +25,6 @@ words-half (h ∷ l ∷ bs) = let e = words-half bs in omega arith
 
 pub words-length : (bs : List ℕ) (n : ℕ) → length bs ≡ 2 * n → length (words_of bs) ≡ n
 words-length bs n h = let e = words-half bs in omega arith
-
-pub word-at-pair : (bs : List ℕ) (i n : ℕ) → length bs ≡ 2 * n → i < n
-    → get_or (words_of bs) i 0 ≡ get_or bs (2 * i) 0 * 256 + get_or bs (2 * i + 1) 0
-unfolding words_of
-word-at-pair [] i n h l = absurd (omega arith)
-word-at-pair (b ∷ []) i n h l = absurd (omega arith)
-word-at-pair (h ∷ l ∷ bs) i zero k m = absurd (omega arith)
-word-at-pair (h ∷ l ∷ bs) zero (suc n) k m = refl
-word-at-pair (h ∷ l ∷ bs) (suc i) (suc n) k m =
-    let e : 2 * suc i + 1 ≡ suc (suc (2 * i + 1)) = omega arith in rw (e, twice i) (word-at-pair bs i n (omega arith) (omega arith))
 
 -- There and back.
 pub words-of-bytes : (ws : List ℕ) → words_of (bytes_of ws) ≡ ws

@@ -1,26 +1,22 @@
 -- Bytes compared one by one.
-use mathlib.Core.Path.{◌≡◌, refl, ap₂}
+use mathlib.Core.Path.{◌≡◌, refl, ap, ap₂}
 use mathlib.Core.Bool.{Bool, true, false, ◌&&◌, and-eq-true_iff, false≢true}
 use mathlib.Core.List.{List, [], ◌∷◌, ◌++◌}
-use Prim.Native.Nat.{ℕ, suc, ◌+◌, ◌≤◌, ◌<◌}
+use Prim.Native.Nat.{ℕ}
 use native.Mathlib.Omega.{arith}
 use borrow.Author.Tests.{eq-eqb, eqb-true}
 use lib.Dec.{eqb}
-use lib.ListN.{length, drop, get_or, drop_of_length-le}
-use lib.Seq.{drop-cons}
+use lib.ListN.{length}
+use lib.Pointwise.{pointwise}
 use Rattle.saved_file.specs.SavedFile.{same_bytes}
 
--- The byte at a place, and those behind it.
-pub same_next : (a b : List ℕ) (i : ℕ) → length a ≡ length b → i < length a
-    → same_bytes (drop i a) (drop i b) ≡ (eqb (get_or a i 0) (get_or b i 0) && same_bytes (drop (i + 1) a) (drop (i + 1) b))
+-- It is std's test of two slices of bytes.
+pub pairwise_same : (a b : List ℕ) → pointwise eqb a b ≡ same_bytes a b
 unfolding same_bytes
-same_next a b i h l =
-    let e : i + 1 ≡ suc i = omega arith in
-    rw e (ap₂ same_bytes (drop-cons a i 0 l) (drop-cons b i 0 (omega arith)))
-
-pub same_end : (a b : List ℕ) (i : ℕ) → length a ≡ length b → length a ≤ i → same_bytes (drop i a) (drop i b) ≡ true
-unfolding same_bytes
-same_end a b i h l = ap₂ same_bytes (drop_of_length-le a {i = i} l) (drop_of_length-le b {i = i} (omega arith))
+pairwise_same [] [] = refl
+pairwise_same [] (y ∷ b) = refl
+pairwise_same (x ∷ a) [] = refl
+pairwise_same (x ∷ a) (y ∷ b) = ap (λ (t : Bool). eqb x y && t) (pairwise_same a b)
 
 -- It holds of equal lists and of no others.
 pub same_refl : (a : List ℕ) → same_bytes a a ≡ true
