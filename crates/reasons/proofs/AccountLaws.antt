@@ -1,11 +1,10 @@
 -- What the account of some steps says of them: by the steps one after another, each either writes the nibble, reaches its word or
 -- neither.
-use mathlib.Core.Path.{◌≡◌, refl, sym, ap₂, subst}
+use mathlib.Core.Path.{◌≡◌, refl, ap₂}
 use mathlib.Core.Bool.{Bool, true, false}
 use mathlib.Core.List.{List}
-use Prim.Native.Nat.{ℕ, zero, suc, ◌<◌}
+use Prim.Native.Nat.{ℕ, zero, suc}
 use native.Mathlib.Omega.{arith}
-use native.Mathlib.Decide.{ℕ_discrete}
 use Rattle.xosera.specs.declared.Engine.{Engine}
 use Rattle.reasons.specs.declared.Why.{Why}
 use Rattle.reasons.specs.declared.Why.TheVariants.{NeverReached, Written}
@@ -22,29 +21,18 @@ module _ (does : Adapter → Bool) (n : ℕ) (a : Adapter) where
   one_more {k} l clear = record {
     within = omega (arith, l.within);
     does-it = l.does-it;
-    none-later = λ j later h. pick j later h (ℕ_discrete j n);
+    none-later = λ j later h. grind (arith, l.none-later, clear);
   }
-    where
-      pick : (j : ℕ) → k < j → j < suc n → Dec (j ≡ n) → does (steps j a) ≡ false
-      pick j later h (yes e) = subst (λ (m : ℕ). does (steps m a) ≡ false) (sym e) clear
-      pick j later h (no d) = l.none-later j later (omega (arith, d))
 
   pub none_more : None does n a → does (steps n a) ≡ false → None does (suc n) a
-  none_more none clear k h = pick (ℕ_discrete k n)
-    where
-      pick : Dec (k ≡ n) → does (steps k a) ≡ false
-      pick (yes e) = subst (λ (m : ℕ). does (steps m a) ≡ false) (sym e) clear
-      pick (no d) = none k (omega (arith, d))
+  none_more none clear k h = grind (arith, none, clear)
 
   pub last-now : does (steps n a) ≡ true → Last does (suc n) a n
   last-now set = record { within = omega arith; does-it = set; none-later = λ j later h. absurd (omega arith) }
 
   -- There is one last step that does it at most.
-  not-later : {k j : ℕ} → Last does n a k → Last does n a j → k < j → ⊥
-  not-later {k} {j} l m later = clash m.does-it (l.none-later j later m.within)
-
   pub same-last : {k j : ℕ} → Last does n a k → Last does n a j → k ≡ j
-  same-last {k} {j} l m = omega (arith, not-later l m, not-later m l)
+  same-last {k} {j} l m = grind (arith, l.none-later j, m.none-later k, l.does-it, m.does-it, l.within, m.within)
 
   pub none_last : {k : ℕ} → None does n a → Last does n a k → ⊥
   none_last {k} none l = clash l.does-it (none k l.within)

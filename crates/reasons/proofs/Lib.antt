@@ -3,5 +3,6 @@ pub mod ExamplesHold
 pub mod AccountLaws
 pub mod NibbleValues
 pub mod ReasonsHold
+pub mod NumbersTell
 pub mod RefusalOrder
 pub mod ClaimsHold

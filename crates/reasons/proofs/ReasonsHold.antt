@@ -8,7 +8,7 @@ use lib.ListN.{length}
 use borrow.Author.Tests.{not-false}
 use Rattle.xosera.specs.declared.BlitRegs.{BlitRegs}
 use Rattle.reasons.specs.declared.Why.{Why}
-use Rattle.reasons.specs.declared.Why.TheVariants.{Refused, NeverReached, HeldBack, Written}
+use Rattle.reasons.specs.declared.Why.TheVariants.{NeverReached, HeldBack, Written}
 use Rattle.xosera.specs.Words.{nibble, combined}
 use Rattle.xosera.specs.Adapter.{Adapter}
 use Rattle.xosera.specs.Blitter.{launched, drawing, moved, steps, blit_words}
@@ -24,6 +24,7 @@ use Rattle.reasons.specs.Claims.{None, Last, HeldThere, WrittenThere, value_in, 
 use Rattle.blits.proofs.BlitSteps.{alike, counted, under-way-inside}
 use Rattle.blits.proofs.BlitsHold.{under-way, blit-claims}
 use Rattle.reasons.proofs.AccountLaws.{same-last, none_last, Became, never, held, wrote, became, none-unwritten, noted-alike}
+use Rattle.reasons.proofs.NumbersTell.{done-apart}
 use Rattle.reasons.proofs.NibbleValues.{written-value, none-written-stays}
 
 module _ (r : BlitRegs) (v : List ℕ) (p : Pixel) where
@@ -40,7 +41,6 @@ module _ (r : BlitRegs) (v : List ℕ) (p : Pixel) where
 
   -- What an answer means.
   Means : Why → Type 0
-  Means (Refused m) = ⊥
   Means NeverReached = None (reaches_word p) n start
   Means (HeldBack f l c) = HeldThere p n start f l c
   Means (Written l w) = WrittenThere r v p l w
@@ -149,7 +149,7 @@ module _ (r : BlitRegs) (v : List ℕ) (p : Pixel) where
     some-reason = some-reason;
     never_true = given-as NeverReached;
     true-never = λ none. never-given none fates;
-    not-refused = λ m. given-as (Refused m);
+    not-refused = done-apart (why_of r v p);
     kept = kept;
     drawn = drawn-value;
     every-adapter = every-adapter;

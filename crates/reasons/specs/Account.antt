@@ -4,7 +4,7 @@ use Rattle.std.specs.Prelude.{Bool, cond, ◌&&◌, List, ℕ, zero, suc, eqb}
 use Rattle.xosera.specs.declared.BlitRegs.{BlitRegs}
 use Rattle.xosera.specs.declared.Engine.{Engine}
 use Rattle.reasons.specs.declared.Why.{Why}
-use Rattle.reasons.specs.declared.Why.TheVariants.{Refused, NeverReached, HeldBack, Written}
+use Rattle.reasons.specs.declared.Why.TheVariants.{NeverReached, HeldBack, Written}
 use Rattle.xosera.specs.Words.{bit}
 use Rattle.xosera.specs.Memories.{place, Pixel, from_right}
 use Rattle.xosera.specs.Adapter.{Adapter}
@@ -29,7 +29,6 @@ held_back p a = held_back_by a.engine (source_now a) (from_right p)
 
 -- "'Held back' is given only if no reach wrote it."
 unfoldable pub unless_written : Why → Why → Why
-unless_written (Refused n) held = held
 unless_written NeverReached held = held
 unless_written (HeldBack f l c) held = held
 unless_written (Written l w) held = Written l w

@@ -1,10 +1,12 @@
 -- "The reason is proved true by document 01" (document 02, request 5): what each answer says of the blit's steps, both ways, and what
 -- holds of the nibble's value. `WhyClaims` is proved in proofs/ClaimsHold.antt.
-use Rattle.std.specs.Prelude.{◌≡◌, Bool, true, false, ◌||◌, List, ℕ, ◌<◌, ◌≤◌, length, get_or}
+use Rattle.std.specs.Prelude.{◌≡◌, Bool, true, false, ◌||◌, List, ℕ, ◌<◌, ◌≤◌, length, get_or, Result, Ok, Err}
 use Rattle.xosera.specs.declared.BlitRegs.{BlitRegs}
 use Rattle.reasons.specs.declared.Why.{Why}
-use Rattle.reasons.specs.declared.Why.TheVariants.{Refused, NeverReached, HeldBack, Written}
+use Rattle.reasons.specs.declared.Why.TheVariants.{NeverReached, HeldBack, Written}
 use Rattle.reasons.specs.declared.WhyAnswer.{WhyAnswer}
+use Rattle.xosera.specs.declared.Refusal.{Refusal}
+use Rattle.xosera.specs.Told.{refused}
 use Rattle.xosera.specs.Words.{nibble, combined}
 use Rattle.xosera.specs.Memories.{is_vram_length, Pixel, from_right}
 use Rattle.xosera.specs.Adapter.{Adapter}
@@ -14,7 +16,7 @@ use Rattle.calls.specs.Sequences.{start_with, Starts, words_of}
 use Rattle.masks.specs.Masks.{first_holds, last_holds, test_holds, source_now}
 use Rattle.blits.specs.Blits.{begun, drawn_by, Inside, step_of}
 use Rattle.reasons.specs.Account.{reaches_word, writes_nibble, account, why_of}
-use Rattle.reasons.specs.WhyCall.{why_refusal, numbers, Explains}
+use Rattle.reasons.specs.WhyCall.{why_refusal, told, numbers, Explains}
 
 -- Of n steps from an adapter, counted from 0: no step does it; step k does, and no later one.
 abbrev pub None : (Adapter → Bool) → ℕ → Adapter → Type 0
@@ -59,8 +61,8 @@ pub record Reasons (r : BlitRegs) (v : List ℕ) (p : Pixel) : Type 0 where
   -- "Never reached" if and only if no step's destination is the place.
   pub never_true : why_of r v p ≡ NeverReached → None (reaches_word p) (blit_words r) (begun r v)
   pub true-never : None (reaches_word p) (blit_words r) (begun r v) → why_of r v p ≡ NeverReached
-  -- The account of a blit is one of these three.
-  pub not-refused : (n : ℕ) → why_of r v p ≡ Refused n → ⊥
+  -- The account of a blit is one of these three: no refusal has its numbers.
+  pub not-refused : (refusal : Refusal) → numbers (Ok (why_of r v p)) ≡ numbers (Err refusal) → ⊥
   -- A nibble that is not written has the value of the memory before; one that is written has that of the result of the step given.
   pub kept : 0 < length v → ((l w : ℕ) → why_of r v p ≡ Written l w → ⊥) → value_in (drawn_by r v) p ≡ value_in v p
   pub drawn : 0 < length v → (l w : ℕ) → why_of r v p ≡ Written l w
@@ -102,7 +104,10 @@ pub record WhyClaims : Type 0 where
   pub reasons : (r : BlitRegs) (v : List ℕ) (p : Pixel) → Reasons r v p
   pub started : (a : Adapter) (b : ℕ) (p : Pixel) → Starts a b → AsStarted (after a (start_with b)) p
   pub refusals : WhyRefusals
+  -- What is told is refused with that number, or is done.
+  pub told-refusal : (r : BlitRegs) (before work : List ℕ) (p : Pixel)
+      → refused (told r before work p) ≡ why_refusal (length before) (length work) p
   -- The numbers tell the answers apart.
-  pub apart : (w x : Why) → numbers w ≡ numbers x → w ≡ x
+  pub apart : (w x : Result Why Refusal) → numbers w ≡ numbers x → w ≡ x
   pub answered : (r : BlitRegs) (before work : List ℕ) (p : Pixel) (given : WhyAnswer) (after : List ℕ) → Explains r before work p given after
       → Answered r before work p given after

@@ -1,10 +1,11 @@
 -- Worked examples of blits on a memory of eight words, for what the claims do not tell apart: nibbles count from the left, lines
 -- and words from 0, addresses are modulo the length, and what comes last counts.
-use Rattle.std.specs.Prelude.{◌≡◌, Bool, true, false, List, [], ◌∷◌, map, ℕ}
+use Rattle.std.specs.Prelude.{◌≡◌, Bool, true, false, List, [], ◌∷◌, map, ℕ, Ok, Err}
 use Rattle.xosera.specs.declared.BlitRegs.{BlitRegs}
 use Rattle.reasons.specs.declared.Why.{Why}
-use Rattle.reasons.specs.declared.Why.TheVariants.{Refused, NeverReached, HeldBack, Written}
+use Rattle.reasons.specs.declared.Why.TheVariants.{NeverReached, HeldBack, Written}
 use Rattle.reasons.specs.declared.WhyAnswer.{WhyAnswer}
+use Rattle.xosera.specs.declared.Refusal.TheVariants.{VramLength, NoNibble}
 use Rattle.xosera.specs.Memories.{Pixel}
 use Rattle.blits.specs.Blits.{drawn_by}
 use Rattle.reasons.specs.Account.{why_of}
@@ -70,7 +71,8 @@ pub record WhyExamples : Type 0 where
   pub refusals : why_refusal 256 256 (3 at 255) ∷ why_refusal 256 256 (4 at 0) ∷ why_refusal 256 256 (0 at 256) ∷ why_refusal 256 512 (0 at 0)
       ∷ why_refusal 512 256 (0 at 0) ∷ why_refusal 255 255 (0 at 0) ∷ why_refusal 255 255 (4 at 0) ∷ [] ≡ 0 ∷ 15 ∷ 15 ∷ 1 ∷ 1 ∷ 1 ∷ 1 ∷ []
   -- A memory of one word is refused and stays.
-  pub refused : (told edged_copy memory (0x5678 ∷ []) (0 at 0) ≡ Refused 1) × (work_after edged_copy memory (0x5678 ∷ []) (0 at 0) ≡ 0x5678 ∷ [])
+  pub refused : (told edged_copy memory (0x5678 ∷ []) (0 at 0) ≡ Err VramLength)
+      × (work_after edged_copy memory (0x5678 ∷ []) (0 at 0) ≡ 0x5678 ∷ [])
   -- What a case does not have is 0 or no.
-  pub cases : map numbers (Refused 15 ∷ NeverReached ∷ HeldBack true false true ∷ Written 1 2 ∷ [])
+  pub cases : map numbers (Err NoNibble ∷ Ok NeverReached ∷ Ok (HeldBack true false true) ∷ Ok (Written 1 2) ∷ [])
       ≡ row 15 0 false false false 0 0 ∷ row 0 1 false false false 0 0 ∷ row 0 2 true false true 0 0 ∷ row 0 3 false false false 1 2 ∷ []

@@ -1,11 +1,15 @@
 // Why a nibble of VRAM is as it is: what the call answers. Definitions and claims are in specs/.
 #![tactic(auto)]
 
-// What became of a nibble in a blit, or the number of a refusal. `HeldBack` has the reasons that applied at the last reach, one at
-// least: first mask, last mask, colour test. `Written` has line and word, from 0, of the last write.
+ghost use Rattle.std.specs.Prelude.{◌≡◌};
+ghost use Rattle.reasons.specs.WhyCall.{numbers};
+
+use xosera::Refusal;
+
+// What became of a nibble in a blit. `HeldBack` has the reasons that applied at the last reach, one at least: first mask, last mask,
+// colour test. `Written` has line and word, from 0, of the last write.
 #[derive(Clone, Copy)]
 pub enum Why {
-    Refused(u8),
     NeverReached,
     HeldBack {
         first: bool,
@@ -18,9 +22,9 @@ pub enum Why {
     },
 }
 
-// The same as numbers, for C; specs/WhyCall.antt says which (`numbers`).
+// The same, or the refusal, as numbers for C; specs/WhyCall.antt says which (`numbers`).
 #[repr(C)]
-#[derive(Clone, Copy)]
+#[derive(Clone, Copy, Default)]
 pub struct WhyAnswer {
     pub refusal: u8,
     pub fate: u8,
@@ -29,4 +33,39 @@ pub struct WhyAnswer {
     pub colour: bool,
     pub line: u16,
     pub word: u16,
+}
+
+// What a case does not have is 0 or no.
+impl From<Result<Why, Refusal>> for WhyAnswer {
+    ghost from_gives = { λ given answer. answer ≡ numbers given };
+
+    fn from(given: Result<Why, Refusal>) -> WhyAnswer {
+        let nothing = WhyAnswer::default();
+        match given {
+            Err(refused) => WhyAnswer {
+                refusal: refused.into(),
+                ..nothing
+            },
+            Ok(Why::NeverReached) => WhyAnswer { fate: 1, ..nothing },
+            Ok(
+                Why::HeldBack {
+                    first,
+                    last,
+                    colour,
+                },
+            ) => WhyAnswer {
+                fate: 2,
+                first,
+                last,
+                colour,
+                ..nothing
+            },
+            Ok(Why::Written { line, word }) => WhyAnswer {
+                fate: 3,
+                line,
+                word,
+                ..nothing
+            },
+        }
+    }
 }

@@ -1,3 +1,2 @@
 -- The account as the functions keep it, and what the call promises.
 pub mod Noting
-pub mod Promised

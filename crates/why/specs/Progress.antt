@@ -1,9 +1,9 @@
--- How far the account of a blit has come, as the functions keep it.
-use Rattle.std.specs.Prelude.{◌≡◌, List, ℕ, ◌+◌, ◌≤◌, length}
+-- How far the account of a blit has come, as the functions keep it. That its engine is fit to go on is in the type (`Blit` of crate
+-- `engine`).
+use Rattle.std.specs.Prelude.{◌≡◌, List, ℕ, ◌+◌, ◌≤◌}
 use Rattle.xosera.specs.declared.Engine.{Engine}
 use Rattle.reasons.specs.declared.Why.{Why}
 use Rattle.xosera.specs.Blitter.{moved, steps, engine_left}
-use Rattle.xosera.specs.Ranges.{Running}
 use Rattle.xosera.specs.Memories.{Pixel}
 use Rattle.blits.specs.Blits.{blit_of}
 use Rattle.reasons.specs.Account.{account}
@@ -12,15 +12,11 @@ use Rattle.reasons.specs.Account.{account}
 pub record Known (p : Pixel) (e : Engine) (v : List ℕ) (f : Engine) (u : List ℕ) (known : Why) : Type 0 where
   pub done : ℕ
   pub reached : steps done (blit_of e v) ≡ moved (blit_of e v) f u
-  pub goes_on : Running f
   pub words_left : done + engine_left f ≡ engine_left e
   pub told : known ≡ account p done (blit_of e v)
-  pub vram-length : length u ≡ length v
 
 -- From engine f and VRAM u some words were done that do not go to an address, and the blit goes on from g and x: what was known of
 -- a nibble there is still what is known.
 pub record Passed (address : ℕ) (f : Engine) (u : List ℕ) (g : Engine) (x : List ℕ) : Type 0 where
   pub keeps : (p : Pixel) (e : Engine) (v : List ℕ) (known : Why) → p.address ≡ address → Known p e v f u known → Known p e v g x known
-  pub goes_on : Running g
   pub fewer : engine_left g ≤ engine_left f
-  pub vram-length : length x ≡ length u

@@ -2,10 +2,11 @@
 -- elsewhere; the last word comes after the loop.
 use Rattle.xosera.specs.Blitter.{engine_left}
 use Rattle.why.specs.Progress.{Known}
-use Rattle.why.proofs.account.Given as goal
+use Rattle.why.proofs.Spot.account.Given as goal
 
 abbrev pub invariant-loop-vram : goal.invariant-loop-vram
-invariant-loop-vram l = Known (record { address = l.address; nibble = l.nibble }) l.initial.at l.initial.vram l.at l.vram l.known
+invariant-loop-vram l =
+    Known (record { address = l.self.address; nibble = l.self.nibble }) l.initial.at.engine l.initial.vram l.at.engine l.vram l.known
 
 abbrev pub decreases-loop-vram : goal.decreases-loop-vram
-decreases-loop-vram l = engine_left l.at
+decreases-loop-vram l = engine_left l.at.engine
