@@ -1,5 +1,4 @@
--- Grey levels: examples and claims; the table's rule, and words taken through a table.
+-- Grey levels: examples and claims, and the rule of the table.
 pub mod ExamplesHold
 pub mod ClaimsHold
 pub mod TableRule
-pub mod WordsThrough

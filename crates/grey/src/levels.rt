@@ -1,6 +1,6 @@
 // The level of each colour 0xRGB, a digit each: word RG has those of blue 0 to 15 from left to right. This file is what
 // scripts/grey-levels.sh prints.
-pub const LEVELS: [u64; 256] = [
+pub static LEVELS: [u64; 256] = [
     0x0000011111111122,
     0x1111111112222222,
     0x1112222222223333,

@@ -10,44 +10,33 @@ ghost use Rattle.grey.specs.LevelTable.{level_in, HoldsLevels};
 use levels::LEVELS;
 
 // The table. Its rule is proved here, for all 4,096 levels.
-fn table() -> [u64; 256]
-    ensures { HoldsLevels result }
+fn table() -> &'static [u64; 256]
+    ensures { HoldsLevels result.now }
 {
-    LEVELS
+    &LEVELS
 }
 
 // The level that a table has for a colour.
-fn level_in(table: &[u64; 256], colour: u16) -> u16
+fn level_in(table: &[u64; 256], colour: u16) -> u8
     ensures { result ≡ level_in table.now colour }
 {
     let word = table[(colour % 4096 / 16) as usize];
-    ((word >> (60 - colour % 16 * 4)) % 16) as u16
+    ((word >> (60 - colour % 16 * 4)) % 16) as u8
 }
 
-// Takes each word through a table.
-fn through(table: &[u64; 256], words: &mut [u16])
-    ensures { words.new ≡ map (level_in table.now) words.old }
+// The level of a colour.
+#[tactic(auto, using(crate::proofs::TableRule::each_word))]
+pub fn grey(colour: u16) -> u8
+    ensures { result ≡ grey_level colour }
 {
-    let mut i = 0;
-    while i < words.len() {
-        words[i] = level_in(table, words[i]);
-        i += 1;
-    }
+    level_in(table(), colour)
 }
 
 // Each word becomes its level.
 pub fn grey_words(words: &mut [u16])
     ensures { words.new ≡ map grey_level words.old }
 {
-    let levels = table();
-    through(&levels, words);
-}
-
-// The level of a colour.
-pub fn grey(colour: u16) -> u8
-    ensures { result ≡ grey_level colour }
-{
-    let mut words = [colour];
-    grey_words(&mut words);
-    words[0] as u8
+    for word in words.iter_mut() {
+        *word = grey(*word).into();
+    }
 }

@@ -10,13 +10,10 @@ use Rattle.scanline.specs.Scanline.{row_start, in_window, pixel_at, pixel_addres
 use Rattle.scanline.proofs.LineLaws.{across-same}
 use Rattle.scanline.proofs.PixelLaws.{outside, inside-index, first-half}
 use Rattle.row_pixels.specs.Fills.{Fills}
-use Rattle.row_pixels.specs.RowParts.{pixel_colour, WindowPart}
+use Rattle.row_pixels.specs.RowParts.{pixel_colour}
 use Rattle.row_pixels.proofs.FillLaws.{fills-join, fills_same, fills-all}
 
 module _ (p : Playfield) (width : ℕ) {left right : ℕ} (r : right ≡ min p.right width) (l : left ≡ min p.left right) where
-  pub window-part : WindowPart p width left right
-  window-part = record { ordered = omega (arith, l); within = omega (arith, r); starts = λ h. omega (arith, l, h) }
-
   below : (x : ℕ) → x < left → in_window p x ≡ false
   unfolding in_window
   below x h = rw (lt-leb p.left x (omega (arith, l, h)))

@@ -4,6 +4,7 @@ use mathlib.Core.List.{List, map}
 use Prim.Native.Nat.{ℕ, ◌<◌}
 use native.Mathlib.Omega.{arith}
 use lib.ListN.{length, get_or}
+use Rattle.std.proofs.lemmas.List.{get_or-map}
 use Rattle.xosera.specs.Adapter.{Adapter}
 use Rattle.xosera.proofs.Branches.{cond-done, cond-refused}
 use Rattle.scanline.specs.Scanline.{playfield_a, colour_index, colour, painted}
@@ -11,7 +12,6 @@ use Rattle.scanline.specs.PaintCall.{screen_width, paint_refusal, pixels_after, 
 use Rattle.scanline.proofs.ClaimsHold.{scanline-claims}
 use Rattle.grey.specs.Grey.{grey_level}
 use Rattle.grey.proofs.ClaimsHold.{grey-claims}
-use Rattle.grey.proofs.WordsThrough.{map_at}
 use Rattle.paint_grey.specs.GreyLine.{grey_after, PaintsGrey}
 use Rattle.paint_grey.specs.Claims.{GreyDone, BesidePainting, GreyLineClaims}
 
@@ -32,7 +32,7 @@ module _ (a : Adapter) (line : ℕ) (pixels : List ℕ) (refusal : ℕ) (after :
   each z x h =
       let whole = scanline-claims.whole-line screen_width (playfield_a a.side.video) a.side.xr in
       ap (λ (l : List ℕ). get_or l x 0) (mapped z)
-      ∙ map_at grey_level shown x (omega (arith, h, whole.size a.vram line))
+      ∙ get_or-map grey_level shown x 0 0 (omega (arith, h, whole.size a.vram line))
       ∙ ap grey_level (whole.each a.vram line x h)
 
   calls : GreyDone a line pixels refusal after

@@ -19,9 +19,9 @@ module _ (a : Adapter) (line : ℕ) (pixels : List ℕ) {refusal : ℕ} {colours
         ∙ sym (cond-refused _ _ painting.answers d);
   }
 
-  pub grey-done : {after : List ℕ} → refusal ≡ 0 → after ≡ map grey_level colours → PaintsGrey a line pixels refusal after
+  pub grey-done : {after : List ℕ} → refusal ≡ 0 → after ≡ map grey_level colours → PaintsGrey a line pixels 0 after
   unfolding grey_after
   grey-done z e = record {
-    answers = painting.answers;
+    answers = sym z ∙ painting.answers;
     leaves = e ∙ ap (map grey_level) painting.leaves ∙ sym (cond-done _ _ painting.answers z);
   }

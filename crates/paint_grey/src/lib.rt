@@ -2,26 +2,23 @@
 #![tactic(auto)]
 
 ghost use Rattle.xosera.specs.Adapter.{adapter_at};
+ghost use Rattle.xosera.specs.Told.{refused};
 ghost use Rattle.paint_grey.specs.GreyLine.{PaintsGrey};
 
-use scanline::PaintAnswer;
-use xosera::STATE_WORDS;
+use xosera::{Refusal, StateWords};
 
 // Paints a line, then takes each word to its level. It is refused as painting is.
 pub fn paint_grey(
-    s: &[u16; STATE_WORDS],
+    s: &StateWords,
     vram: &[u16],
     xr: &[u16],
     line: u32,
     pixels: &mut [u16],
-) -> PaintAnswer
-    ensures { PaintsGrey (adapter_at s.now vram.now xr.now) line pixels.old result.refusal
+) -> Result<(), Refusal>
+    ensures { PaintsGrey (adapter_at s.now vram.now xr.now) line pixels.old (refused result)
         pixels.new }
 {
-    let answer = paint::paint(s, vram, xr, line, pixels);
-    if answer.refusal != 0 {
-        return answer;
-    }
+    paint::paint(s, vram, xr, line, pixels)?;
     grey::grey_words(pixels);
-    answer
+    Ok(())
 }

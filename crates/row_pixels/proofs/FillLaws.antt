@@ -1,5 +1,5 @@
 -- A part that is filled, word by word and part by part.
-use Rattle.std.proofs.Common.{◌≡◌, ℕ, ◌+◌, ◌<◌, ◌≤◌, List, length, get_or, set, refl, ◌∙◌, arith, length-set, get_or-set_other, get_or-set_same}
+use Rattle.std.proofs.Common.{◌≡◌, ℕ, ◌<◌, ◌≤◌, List, length, get_or, refl, ◌∙◌, arith}
 use native.Mathlib.Decide.{dec_lt}
 use Rattle.scanline.specs.Scanline.{across}
 use Rattle.scanline.proofs.LineLaws.{across-all}
@@ -12,16 +12,6 @@ module _ (f : ℕ → ℕ) where
     filled = λ x h k. absurd (omega (arith, h, k));
     before-it = λ x h. refl;
     behind-it = λ x h. refl;
-  }
-
-  fills_one : (n : ℕ) (l : List ℕ) → n < length l → Fills n (n + 1) f l (set l n (f n))
-  fills_one n l h = record {
-    same_length = length-set l n (f n);
-    filled = λ x lo hi.
-        let here : x ≡ n = omega (arith, lo, hi) in
-        rw here (get_or-set_same l n (f n) 0 h);
-    before-it = λ x k. get_or-set_other l n x (f n) 0 (λ e. absurd (omega (arith, k, e)));
-    behind-it = λ x k. get_or-set_other l n x (f n) 0 (λ e. absurd (omega (arith, k, e)));
   }
 
   -- One part and the next.
@@ -37,10 +27,6 @@ module _ (f : ℕ → ℕ) where
         side : (x : ℕ) → a ≤ x → x < c → Dec (x < b) → get_or n x 0 ≡ f x
         side x lo hi (yes h) = two.before-it x h ∙ one.filled x lo h
         side x lo hi (no h) = two.filled x (omega (arith, h)) hi
-
-  pub fills-next : {a n : ℕ} {l m : List ℕ} → a ≤ n → n < length l → Fills a n f l m → Fills a (n + 1) f l (set m n (f n))
-  fills-next {a} {n} {l} {m} p h one =
-      fills-join p (omega arith) one (fills_one n m (omega (arith, h, one.same_length)))
 
   -- All words of a line.
   pub fills-all : (n : ℕ) (l m : List ℕ) → length l ≡ n → Fills 0 n f l m → m ≡ across n f

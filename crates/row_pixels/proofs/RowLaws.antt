@@ -1,5 +1,5 @@
 -- A row in its window, pixel by pixel: behind each comes the next, and what is seen at a place is the pixel that was painted there.
-use Rattle.std.proofs.Common.{◌≡◌, ℕ, ◌+◌, ◌-◌, ◌*◌, ◌/◌, ◌%◌, ◌^◌, ◌<◌, ◌≤◌, Bool, true, false, cond, List, get_or, sym, ap, ◌∙◌, add-zero, add_assoc, zero-mul, arith}
+use Rattle.std.proofs.Common.{◌≡◌, ℕ, ◌+◌, ◌-◌, ◌*◌, ◌/◌, ◌%◌, ◌^◌, ◌<◌, ◌≤◌, Bool, true, false, cond, List, get_or, sym, ap, ◌∙◌, add_assoc, zero-mul, arith}
 use native.Mathlib.Decide.{dec_lt}
 use Rattle.scanline.specs.declared.Playfield.{Playfield}
 use Rattle.xosera.specs.Words.{wrap, nibble}
@@ -52,13 +52,6 @@ module _ (p : Playfield) (colour : ℕ → ℕ) where
 
 -- The pixels of a word one after another.
 module _ (p : Playfield) (colours : List ℕ) (w : ℕ) {x to : ℕ} {l : List ℕ} where
-  pub no-pixel : PaintsPixels p colours w 0 x to x l l
-  no-pixel = record {
-    on = omega arith;
-    further = λ h. absurd (omega (arith, h));
-    row = λ colour from k first each done. rw (add-zero k) done;
-  }
-
   pub next-pixel : {n r s : ℕ} {m q : List ℕ} → PaintsPixels p colours w n x to r l m
       → PaintsPixel r to (h_repeat p.gfx) (get_or colours (pixel_index p w n) 0) s m q → PaintsPixels p colours w (n + 1) x to s l q
   next-pixel {n} {r} {s} some one = record {

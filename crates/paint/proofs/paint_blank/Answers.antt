@@ -1,11 +1,10 @@
 -- One colour from end to end.
-use Rattle.std.proofs.Common.{ℕ, get_or, refl, ap, ◌∙◌}
-use lib.Bits.{bit_xor}
-use Rattle.row_pixels.proofs.FillLaws.{fills_same, fills-all}
+use Rattle.std.proofs.Common.{length, ◌∙◌, rules}
+use Rattle.std.proofs.lemmas.List.{length-replicate, get_or-replicate}
+use Rattle.scanline.proofs.LineLaws.{across-all}
 use Rattle.paint.proofs.paint_blank.Goals as goal
 
 pub returns : goal.returns
 returns c =
-    let seen = c.colour.ensures
-    ∙ ap (λ (base : ℕ). get_or c.args.colours.now (bit_xor c.args.p.border base) 0) c.colour_base.ensures in
-    fills-all _ _ c.args.pixels.now _ refl (fills_same _ _ (λ x _ _. seen) c.fill.ensures)
+    let n = length c.args.pixels.now in
+    c.fill.ensures.after (λ y e. e) ∙ across-all n _ _ (length-replicate n _) (λ x h. get_or-replicate n x _ 0 h ∙ search rules)
