@@ -1,5 +1,5 @@
 -- Laws of lists of events that belong to no one function.
-pub mod PlayedLists
+pub mod EventKinds
 pub mod Playing
 pub mod OrderOfCalls
 pub mod StepsOfCalls

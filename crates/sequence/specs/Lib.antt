@@ -1,2 +1,2 @@
--- A list of events as numbers, and what calling them one after another gives.
+-- A list of events, and what calling them one after another gives.
 pub mod Played

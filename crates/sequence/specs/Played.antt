@@ -1,18 +1,29 @@
--- A list of events as two lists of numbers, a kind and an argument for each; and the calls made one after another, each given
--- what the one before it left.
-use Rattle.std.specs.Prelude.{◌≡◌, true, false, List, [], ◌∷◌, ℕ, ◌/◌, ◌%◌, get_or}
-use Rattle.sequence.specs.declared.Outcome.{Outcome}
+-- A list of events as the code has it, and the calls made one after another, each given what the one before it left.
+use Rattle.std.specs.Prelude.{◌≡◌, true, false, List, [], ◌∷◌, map, ℕ, ◌/◌, ◌%◌, get_or, Result}
+use Rattle.xosera.specs.declared.Refusal.{Refusal}
+use Rattle.sequence.specs.declared.Event as Code
+use Rattle.sequence.specs.declared.Event.TheVariants.{Write, Read, Tick, Beam, Line, Step, Run}
+use Rattle.sequence.specs.declared.Gave.{Gave}
 use Rattle.xosera.specs.Adapter.{Adapter}
-use Rattle.xosera.specs.Events.{Event, Answer, write, read, tick, beam, line, call, step, run}
+use Rattle.xosera.specs.Events.{Event, Answer, write, read, tick, beam, line, call, step, run, of_result}
 use Rattle.calls.specs.Sequences.{after_all, all_answers}
 use Rattle.order.specs.Order.{agreed, in_agreed}
 
--- The answer that an outcome stands for.
-abbrev pub of_outcome : Outcome → Answer
-of_outcome r = record { refusal = r.refusal; value = r.value; mask = r.mask }
+-- The event that each of the code's stands for.
+abbrev pub of_event : Code.Event → Event
+of_event (Write reg odd byte) = call (write reg odd byte)
+of_event (Read reg odd) = call (read reg odd)
+of_event Tick = call tick
+of_event Beam = call beam
+of_event Line = call line
+of_event Step = step
+of_event (Run n) = run n
 
--- 0 and 1 write a byte, even and odd; 2 and 3 read one; 4 a timer tick; 5 a beam step; 6 the line question; 7 a blit step;
--- from 8 on a run. An access's argument is register + 256 x byte, a run's is n.
+abbrev pub of_events : List Code.Event → List Event
+of_events = map of_event
+
+-- The event of a number and an argument: 0 and 1 write a byte, even and odd; 2 and 3 read one; 4 a timer tick; 5 a beam step; 6 the line
+-- question; 7 a blit step; from 8 on a run. An access's argument is register + 256 x byte, a run's is n.
 abbrev pub kinds : ℕ → List Event
 kinds n =
     call (write (n % 256) false (n / 256 % 256)) ∷ call (write (n % 256) true (n / 256 % 256))
@@ -22,17 +33,12 @@ kinds n =
 unfoldable pub event_of : ℕ → ℕ → Event
 event_of kind n = get_or (kinds n) kind (run n)
 
-unfoldable pub events_of : List ℕ → List ℕ → List Event
-events_of [] args = []
-events_of (k ∷ kinds) [] = []
-events_of (k ∷ kinds) (n ∷ args) = event_of k n ∷ events_of kinds args
+-- The answer that each of the code's stands for.
+abbrev pub of_gave : Result Gave Refusal → Answer
+of_gave = of_result (λ g. record { refusal = 0; value = g.value; mask = g.mask })
 
--- The answers as three lists of numbers.
-unfoldable pub answers_of : List ℕ → List ℕ → List ℕ → List Answer
-answers_of [] values masks = []
-answers_of (r ∷ refusals) [] masks = []
-answers_of (r ∷ refusals) (v ∷ values) [] = []
-answers_of (r ∷ refusals) (v ∷ values) (m ∷ masks) = record { refusal = r; value = v; mask = m } ∷ answers_of refusals values masks
+abbrev pub of_answers : List (Result Gave Refusal) → List Answer
+of_answers = map of_gave
 
 -- Of the answers to a list of events those of the calls, but for the bits that may differ (document 01, "The order of things").
 unfoldable pub agreed_answers : List Event → List Answer → List Answer
