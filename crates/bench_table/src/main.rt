@@ -5,18 +5,20 @@
 mod bench;
 mod registers;
 mod report;
+mod shown;
 mod table;
 
-use crate::report::Table;
-use std::io;
+use crate::report::{Stopped, Table};
 
-fn main(rt: HostRuntime) -> io::Result<()> {
-    report::put(&rt, b"case | should give | gave | verdict\n")?;
-    let mut t = table::drawing(&rt, Table { at: 0, good: 0 })?;
-    t = table::places(&rt, t)?;
-    t = table::hosts(&rt, t)?;
-    t = table::timers(&rt, t)?;
-    t = table::queues(&rt, t)?;
-    t = table::shifted_lines(&rt, t)?;
-    println!(rt; "{} of 16 rows as they should be", t.good)
+fn main(rt: HostRuntime) -> Result<(), Stopped> {
+    println!(rt; "case | should give | gave | verdict")?;
+    let mut table = Table { good: 0 };
+    table::drawing(&rt, &mut table)?;
+    table::places(&rt, &mut table)?;
+    table::hosts(&rt, &mut table)?;
+    table::timers(&rt, &mut table)?;
+    table::queues(&rt, &mut table)?;
+    table::shifted_lines(&rt, &mut table)?;
+    println!(rt; "{} of 16 rows as they should be", table.good)?;
+    Ok(())
 }

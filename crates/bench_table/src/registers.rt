@@ -1,25 +1,4 @@
-// The registers that the rows name.
-
-// Main registers, by number.
-pub const SYS_CTRL: u8 = 0;
-
-pub const INT_CTRL: u8 = 1;
-
-pub const TIMER: u8 = 2;
-
-pub const WR_XADDR: u8 = 4;
-
-pub const XDATA: u8 = 5;
-
-pub const RD_ADDR: u8 = 7;
-
-pub const WR_INCR: u8 = 8;
-
-pub const WR_ADDR: u8 = 9;
-
-pub const DATA: u8 = 10;
-
-// The blitter's, by XR address.
+// The blitter's registers that the rows name, by XR address.
 pub const CTRL: u16 = 0x40;
 
 pub const ANDC: u16 = 0x41;
