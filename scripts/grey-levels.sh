@@ -5,7 +5,7 @@ set -eu
 cat <<'HEAD'
 // The level of each colour 0xRGB, a digit each: word RG has those of blue 0 to 15 from left to right. This file is what
 // scripts/grey-levels.sh prints.
-pub const LEVELS: [u64; 256] = [
+pub static LEVELS: [u64; 256] = [
 HEAD
 awk 'BEGIN {
     for (red = 0; red < 16; red++) {

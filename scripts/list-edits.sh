@@ -22,13 +22,13 @@ while read -r call edits; do
 done <<'CALLS'
 reset adapter/reset_vid_right_480 adapter/reset_nibble_mask_0
 write_byte adapter/write_with_any_memory access/data_at_12 vram_port/store_at_the_read_address
-read_byte adapter/refused_read_gives_255 host_reads/xr_buffer_at_10
-interrupt_line adapter/line_turned adapter/refused_line_up
+read_byte xosera/refused_read_gives_255 host_reads/xr_buffer_at_10
+interrupt_line adapter/line_turned xosera/refused_line_up
 blit_step queue/whole_blit_in_a_step engine/draw_answers_the_value
 blit_run adapter_steps/run_of_65535_at_most adapter_steps/run_count_invented queue_runs/run_n_for_each_blit
 timer_tick timer/tick_sets_bit_4 timer/countdown_never_starts_again
 beam_step adapter_steps/beam_step_as_a_tick copper/second_word_two_on beam/beam_by_two_pixels
-save saving/exact_room_too_short saving/refused_save_reports_a_length
+save saving/exact_room_too_short xosera/refused_save_reports_a_length saving/short_room_is_done
 load saving/longer_vram_taken saving/not_saved_is_9
 why why/passes_a_reach why/written_before_forgotten
 paint paint/refused_line_painted paint/row_wraps_at_32768
