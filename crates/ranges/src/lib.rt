@@ -3,7 +3,7 @@
 // in one function are not. Sixteen latches and an idle engine are tested four words at once; the others word by word, because a read of
 // four words waits for a store to any of them.
 // Each test returns at once where it fails: with `&&` the compiler makes more of it in every call, and single steps took 17.4 ns against
-// 15.2, byte writes 14 against 13, line questions 6.1 against 5.2.
+// 15.8, byte writes 13.9 against 13.4.
 #![tactic(auto)]
 
 ghost use Rattle.std.specs.Prelude.{◌≡◌, [], ◌∷◌, ◌+◌, ◌<◌, eqb};

@@ -1,2 +1,2 @@
--- The account as the functions keep it, and what the call promises.
+-- The account as the functions keep it.
 pub mod Noting
