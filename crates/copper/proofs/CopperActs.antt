@@ -125,7 +125,7 @@ module _ (a : Adapter) {b : Adapter} (e : b ≡ perform (arrival a.side) a) wher
       k ∙ ap (λ (x : Adapter). perform (instruction (is_set x.queued) x.side) x) e ∙ arrived-running (is_set a.queued) a (sym (ap runs e) ∙ on)
 
 -- The word after the last is the first, also where the sum has wrapped.
-program-wraps : (xr : List ℕ) (k : ℕ) → program_at xr ((k + 1) % 65536) ≡ program_at xr (k + 1)
+pub program-wraps : (xr : List ℕ) (k : ℕ) → program_at xr ((k + 1) % 65536) ≡ program_at xr (k + 1)
 unfolding program_at
 program-wraps xr k = ap (λ (n : ℕ). get_or xr (5632 + n) 0) (omega arith)
 

@@ -1,5 +1,5 @@
--- Runs inside one blit: they follow one another, go on word by word, and end with the last word.
-use mathlib.Core.Path.{◌≡◌, sym, ap, subst, subst₂, ◌∙◌}
+-- Runs inside one blit: they start at once, follow one another, go on word by word, and end with the last word.
+use mathlib.Core.Path.{◌≡◌, refl, sym, ap, subst, subst₂, ◌∙◌}
 use mathlib.Core.Bool.{true, false}
 use mathlib.Core.List.{List}
 use Prim.Native.Nat.{ℕ, suc}
@@ -7,9 +7,13 @@ use native.Mathlib.Omega.{arith}
 use Rattle.xosera.specs.declared.Engine.{Engine}
 use Rattle.xosera.specs.Adapter.{Adapter}
 use Rattle.xosera.specs.Blitter.{fetched, last_step, next, drawn, moved, stepped, steps}
+use Rattle.xosera.specs.Ranges.{Running}
 use Rattle.xosera.proofs.StepCases.{stepped-on, stepped-last}
 use Rattle.xosera.proofs.EngineLaws.{next-running, next-left, last-left, drawn-length}
 use Rattle.engine_runs.specs.Progress.{Going, Ended}
+
+pub going_start : (e : Engine) (v : List ℕ) (n : ℕ) → Running e → Going e v n e v n
+going_start e v n r = record { reached = λ a. refl; goes_on = r; words_left = refl; fewer = omega arith; vram-length = refl }
 
 pub going-trans : {e f g : Engine} {v u w : List ℕ} {n m k : ℕ} → Going e v n f u m → Going f u m g w k → Going e v n g w k
 going-trans p q = record {

@@ -49,10 +49,10 @@ module _ (c s x v : List ℕ) (p : length c ≡ 28) (q : length s ≡ 150) (r : 
   part-vram : drop 13490 whole ≡ v
   part-vram = sym (drop-drop 13312 178 whole) ∙ ap (drop 13312) behind-state ∙ drop_at x _ 13312 r
 
-state-bytes : (ws : List ℕ) → length ws ≡ 75 → length (bytes_of ws) ≡ 150
+pub state-bytes : (ws : List ℕ) → length ws ≡ 75 → length (bytes_of ws) ≡ 150
 state-bytes ws h = bytes-length ws ∙ ap (λ (n : ℕ). 2 * n) h
 
-xr-bytes : (x : List ℕ) → length x ≡ 6656 → length (bytes_of x) ≡ 13312
+pub xr-bytes : (x : List ℕ) → length x ≡ 6656 → length (bytes_of x) ≡ 13312
 xr-bytes x h = bytes-length x ∙ ap (λ (n : ℕ). 2 * n) h
 
 -- The file of an adapter by its words.

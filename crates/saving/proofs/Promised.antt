@@ -28,20 +28,18 @@ use Rattle.saved_file.specs.SaveLoad.{short_room, not_at_rest, not_saved, other_
 use Rattle.saved_file.proofs.SavedLaws.{saved-length, saved-facts}
 use Rattle.saved_file.proofs.SavedAdapters.{save-tests, load-tests, short-first}
 
-counts : (e : Refusal) {n : ℕ} → refusal_number e ≡ n → eqb n 0 ≡ false
-counts e {n} h = ne_eqb n 0 (λ z. some_number e (h ∙ z))
-
 module _ (a : Adapter) (room : List ℕ) where
-  save-refused : (e : Refusal) → refusal_number e ≡ save_refusal a room → Saves a room (of_number (Err e)) room
+  pub save-refused : (r : ℕ) → r ≡ save_refusal a room → (r ≡ 0 → ⊥) → Saves a room (maskless r 0) room
   unfolding save_answer room_after
-  save-refused e h =
+  save-refused r h n =
+      let z : eqb (save_refusal a room) 0 ≡ false = ne_eqb (save_refusal a room) 0 (λ k. n (h ∙ k)) in
       record {
-        answers = λ i. maskless (h i) (sym (cond_no (length (saved a)) 0 (counts e h)) i);
-        leaves = sym (cond_no (saved a ++ drop (length (saved a)) room) room (counts e h));
+        answers = λ i. maskless (h i) (sym (cond_no (length (saved a)) 0 z) i);
+        leaves = sym (cond_no (saved a ++ drop (length (saved a)) room) room z);
       }
 
-  save-done : (n : ℕ) (after : List ℕ) → save_refusal a room ≡ 0 → length (saved a) ≡ n → after ≡ saved a ++ drop n room
-      → Saves a room (of_number (Ok n)) after
+  pub save-done : (n : ℕ) (after : List ℕ) → save_refusal a room ≡ 0 → length (saved a) ≡ n → after ≡ saved a ++ drop n room
+      → Saves a room (maskless 0 n) after
   unfolding save_answer room_after
   save-done n after h l e =
       let z : eqb (save_refusal a room) 0 ≡ true = eq-eqb (save_refusal a room) 0 h in
@@ -51,15 +49,24 @@ module _ (a : Adapter) (room : List ℕ) where
       }
 
 module _ (a : Adapter) (file : List ℕ) where
-  load-refused : (e : Refusal) → refusal_number e ≡ load_refusal a file → Loads a file (of_nothing (Err e)) a
+  pub load-refused : (r : ℕ) → r ≡ load_refusal a file → (r ≡ 0 → ⊥) → Loads a file (maskless r 0) a
   unfolding load_answer loaded
-  load-refused e h = record { answers = λ i. maskless (h i) 0; leaves = sym (cond_no (held file) a (counts e h)) }
+  load-refused r h n =
+      let z : eqb (load_refusal a file) 0 ≡ false = ne_eqb (load_refusal a file) 0 (λ k. n (h ∙ k)) in
+      record { answers = λ i. maskless (h i) 0; leaves = sym (cond_no (held file) a z) }
 
-  load-done : (b : Adapter) → load_refusal a file ≡ 0 → b ≡ held file → Loads a file (of_nothing (Ok tt)) b
+  pub load-done : (b : Adapter) → load_refusal a file ≡ 0 → b ≡ held file → Loads a file (maskless 0 0) b
   unfolding load_answer loaded
   load-done b h e =
       let z : eqb (load_refusal a file) 0 ≡ true = eq-eqb (load_refusal a file) 0 h in
       record { answers = λ i. maskless (sym h i) 0; leaves = e ∙ sym (cond_yes (held file) a z) }
+
+-- The same of a refusal by its name.
+save-with : (a : Adapter) (room : List ℕ) (e : Refusal) → refusal_number e ≡ save_refusal a room → Saves a room (of_number (Err e)) room
+save-with a room e h = save-refused a room (refusal_number e) h (some_number e)
+
+load-with : (a : Adapter) (file : List ℕ) (e : Refusal) → refusal_number e ≡ load_refusal a file → Loads a file (of_nothing (Err e)) a
+load-with a file e h = load-refused a file (refusal_number e) h (some_number e)
 
 -- By the tests in their order: the first three, then the room and rest, or the file.
 module _ (ws v x : List ℕ) where
@@ -71,13 +78,13 @@ module _ (ws v x : List ℕ) where
     unfolding save_refusal
     save-lent room told g =
         let p = err_from_is_err_and told g in
-        rw (p.1, p.2) (save-refused here room e (lent-first (state_at ws) v x refl refl h _ (some_number e)))
+        rw (p.1, p.2) (save-with here room e (lent-first (state_at ws) v x refl refl h _ (some_number e)))
 
     pub load-lent : (file : List ℕ) (told : Result (Unit {0}) Refusal) → IsErrAnd told (λ d. d ≡ e) → Loads here file (of_nothing told) here
     unfolding load_refusal
     load-lent file told g =
         let p = err_from_is_err_and told g in
-        rw (p.1, p.2) (load-refused here file e (lent-first (state_at ws) v x refl refl h _ (some_number e)))
+        rw (p.1, p.2) (load-with here file e (lent-first (state_at ws) v x refl refl h _ (some_number e)))
 
   -- None of the three applies.
   module _ (h : 0 ≡ lent_refusal (length v) (length x) (state_at ws)) where
@@ -85,7 +92,7 @@ module _ (ws v x : List ℕ) where
     fit = passed-fit (state_at ws) v x refl refl h refl
 
     pub save-short : (room : List ℕ) → length room < 13490 + 2 * length v → Saves here room (of_number (Err RoomShort)) room
-    save-short room l = save-refused here room RoomShort (sym (short-first here room fit (omega (arith, saved-length ws v x fit.xr))))
+    save-short room l = save-with here room RoomShort (sym (short-first here room fit (omega (arith, saved-length ws v x fit.xr))))
 
     -- With room enough, rest decides.
     module _ (room : List ℕ) (l : 13490 + 2 * length v ≤ length room) where
@@ -95,7 +102,7 @@ module _ (ws v x : List ℕ) where
 
       pub save-off-rest : false ≡ at_rest (state_at ws).beam → Saves here room (of_number (Err NotAtRest)) room
       unfolding not_at_rest first
-      save-off-rest off = save-refused here room NotAtRest (sym (save-decided ∙ rw (← off) refl))
+      save-off-rest off = save-with here room NotAtRest (sym (save-decided ∙ rw (← off) refl))
 
       pub save-fits : (after : List ℕ) → true ≡ at_rest (state_at ws).beam → after ≡ saved here ++ drop (13490 + 2 * length v) room
           → Saves here room (of_number (Ok (13490 + 2 * length v))) after
@@ -104,7 +111,7 @@ module _ (ws v x : List ℕ) where
 
     pub load-unsaved : (file : List ℕ) → false ≡ is_saved file → Loads here file (of_nothing (Err NoSavedAdapter)) here
     unfolding not_saved first
-    load-unsaved file n = load-refused here file NoSavedAdapter (sym (load-tests here file fit ∙ rw (← n) refl))
+    load-unsaved file n = load-with here file NoSavedAdapter (sym (load-tests here file fit ∙ rw (← n) refl))
 
     module _ (file : List ℕ) (is : true ≡ is_saved file) where
       size : length file ≡ 13490 + 2 * length (held file).vram
@@ -114,7 +121,7 @@ module _ (ws v x : List ℕ) where
       unfolding not_saved other_length first
       load-other n =
           let other = ne_eqb (length (held file).vram) (length v) (λ e. n (omega (arith, size))) in
-          load-refused here file SavedVramLength (sym (load-tests here file fit ∙ rw (← is, other) refl))
+          load-with here file SavedVramLength (sym (load-tests here file fit ∙ rw (← is, other) refl))
 
       pub load_fits : (b : Adapter) → length file ≡ 13490 + 2 * length v → b ≡ held file → Loads here file (of_nothing (Ok tt)) b
       unfolding not_saved other_length first

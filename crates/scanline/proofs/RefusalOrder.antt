@@ -14,24 +14,24 @@ use Rattle.scanline.specs.PaintCall.{screen_width, not_paintable, bad_line, othe
 use Rattle.scanline.specs.Claims.{PaintRefusals}
 
 -- Each test that follows 1 to 3.
-line-visible : (line : ℕ) → line ≤ 479 → bad_line line ≡ false
+pub line-visible : (line : ℕ) → line ≤ 479 → bad_line line ≡ false
 unfolding bad_line
 line-visible line h = le-ltb 479 line h
 
-line-hidden : (line : ℕ) → 479 < line → bad_line line ≡ true
+pub line-hidden : (line : ℕ) → 479 < line → bad_line line ≡ true
 unfolding bad_line
 line-hidden line h = lt-ltb 479 line h
 
-width-right : (n : ℕ) → n ≡ screen_width → other_width n ≡ false
+pub width-right : (n : ℕ) → n ≡ screen_width → other_width n ≡ false
 unfolding other_width
 width-right n e = ap not (eq-eqb n screen_width e)
 
-width-wrong : (n : ℕ) → (n ≡ screen_width → ⊥) → other_width n ≡ true
+pub width-wrong : (n : ℕ) → (n ≡ screen_width → ⊥) → other_width n ≡ true
 unfolding other_width
 width-wrong n d = ap not (ne_eqb n screen_width d)
 
 -- What these tests give, by what each of them says.
-tests-given : (p : Playfield) (line n : ℕ) {b c d : Bool} → not_paintable p ≡ b → bad_line line ≡ c → other_width n ≡ d
+pub tests-given : (p : Playfield) (line n : ℕ) {b c d : Bool} → not_paintable p ≡ b → bad_line line ≡ c → other_width n ≡ d
     → first (paint_tests p line n) ≡ first ((11 when b) ∷ (12 when c) ∷ (13 when d) ∷ [])
 tests-given p line n e f g = λ i. first ((11 when e i) ∷ (12 when f i) ∷ (13 when g i) ∷ [])
 
@@ -51,7 +51,7 @@ module _ (a : Adapter) (line n : ℕ) (fit : Fit a) where
   }
 
 -- What it means that none of them applies.
-none-applies : (p : Playfield) (line n : ℕ) → first (paint_tests p line n) ≡ 0 → (line ≤ 479) × (n ≡ screen_width)
+pub none-applies : (p : Playfield) (line n : ℕ) → first (paint_tests p line n) ≡ 0 → (line ≤ 479) × (n ≡ screen_width)
 unfolding bad_line other_width
 none-applies p line n h =
     let eleven = passed (11 when not_paintable p) _ (omega arith) h in

@@ -1,5 +1,5 @@
 -- A list being played: i of its events are behind, each answered in its place, and the rest are ahead.
-use mathlib.Core.Path.{◌≡◌, sym, ap, ap₂, ◌∙◌}
+use mathlib.Core.Path.{◌≡◌, refl, sym, ap, ap₂, ◌∙◌}
 use mathlib.Core.List.{List, [], ◌∷◌, ◌++◌, append_assoc, append-nil}
 use Prim.Native.Nat.{ℕ, ◌+◌, ◌≤◌, ◌<◌}
 use lib.ListN.{length, get_or, take, drop, set}
@@ -18,6 +18,9 @@ use Rattle.sequence.specs.Played.{of_event, of_events, of_gave, of_answers, Play
 pub record Playing (a : Adapter) (es : List Code.Event) (b : Adapter) (i : ℕ) (rs : List (Result Gave Refusal)) : Type 0 where
   pub ahead : after_all b (of_events (drop i es)) ≡ after_all a (of_events es)
   pub behind : of_answers (take i rs) ++ all_answers b (of_events (drop i es)) ≡ all_answers a (of_events es)
+
+pub playing-start : (a : Adapter) (es : List Code.Event) (rs : List (Result Gave Refusal)) → Playing a es a 0 rs
+playing-start a es rs = record { ahead = refl; behind = refl }
 
 -- The next event is done; e stands for any, as the value where a list has none.
 pub playing-on : {a b c : Adapter} {es : List Code.Event} {i : ℕ} {rs : List (Result Gave Refusal)} (e : Code.Event) (r : Result Gave Refusal)

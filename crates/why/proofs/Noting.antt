@@ -41,11 +41,11 @@ module _ {p : Pixel} {e : Engine} {v : List ℕ} {f : Engine} {u : List ℕ} {kn
   abbrev more : Why
   more = noted_at f u p.address (from_right p) known
 
-  told_more : more ≡ account p (suc k.done) (blit_of e v)
+  pub told_more : more ≡ account p (suc k.done) (blit_of e v)
   unfolding account
   told_more = sym (noted-word p (blit_of e v) f u known r) ∙ ap₂ (noted p) (sym k.reached) k.told
 
-  known_on : last_step f ≡ false → Known p e v (next f (fetched f u)) (drawn f u) more
+  pub known_on : last_step f ≡ false → Known p e v (next f (fetched f u)) (drawn f u) more
   known_on h = record {
     done = suc k.done;
     reached = steps-last k.done (blit_of e v) ∙ ap stepped k.reached ∙ stepped-on (moved (blit_of e v) f u) r.runs h;
@@ -54,7 +54,7 @@ module _ {p : Pixel} {e : Engine} {v : List ℕ} {f : Engine} {u : List ℕ} {kn
   }
 
   -- A word that goes elsewhere.
-  known-passed : last_step f ≡ false → eqb (place u f.regs.dstd) p.address ≡ false → Known p e v (next f (fetched f u)) (drawn f u) known
+  pub known-passed : last_step f ≡ false → eqb (place u f.regs.dstd) p.address ≡ false → Known p e v (next f (fetched f u)) (drawn f u) known
   known-passed h d = subst (Known p e v (next f (fetched f u)) (drawn f u)) (cond_no _ known d) (known_on h)
 
   -- The same of what the functions that note and advance hand back.

@@ -1,7 +1,7 @@
 -- The colour test on all nibbles of a word at once.
 use mathlib.Core.Path.{◌≡◌, refl, sym, ap, ap₂, ◌∙◌}
 use mathlib.Core.Bool.{Bool, true, false, cond, ◌&&◌}
-use Prim.Native.Nat.{ℕ, ◌+◌, ◌*◌, ◌/◌, ◌%◌, ◌<◌}
+use Prim.Native.Nat.{ℕ, ◌+◌, ◌*◌, ◌/◌, ◌%◌, ◌<◌, ◌≤◌}
 use native.Mathlib.Omega.{arith}
 use borrow.Author.Tests.{eqb-true, eqb-false, eq-eqb, ne_eqb}
 use lib.Bits.{bit_and, bit_or, bit_xor, and_block, or_block, xor_block, or_lt, xor_lt, and_le_l, and_le_r, xor_add_and, xor_self}
@@ -94,6 +94,9 @@ unfolding spread bit
 nibbles_right p q r s = eqb (marks p q r s / 8 * 15) (spread (unequal p q r s))
 
 -- By nibbles, each for itself.
+pub nibble-room : (t s : ℕ) → colour_tops t s ≤ 0x8888
+nibble-room t s = and_le_r (bit_or (bit_and (bit_xor s (t * 0x0101)) 0x7777 + 0x7777) (bit_xor s (t * 0x0101))) 0x8888
+
 pub nibble-bits : (t s : ℕ) → t < 256 → s < 65536 → colour_tops t s / 8 * 15 ≡ spread (colour_mask false t s)
 unfolding colour_mask is_colour spread bit nibbles_right
 nibble-bits t s ht hs =
@@ -127,6 +130,9 @@ whole s t h k =
     ∙ ap (eqb (nibble (k + 1) s * 16 + nibble k s)) (omega arith)
 
 -- By bytes, both nibbles of each.
+pub byte-room : (z : ℕ) → joined_tops z ≤ 0x0808
+byte-room z = and_le_r (bit_or z (z / 16)) 0x0808
+
 pub byte-bits : (t s : ℕ) → t < 256 → s < 65536 → joined_tops (colour_tops t s) / 8 * 255 ≡ spread (colour_mask true t s)
 unfolding nibble colour_mask is_colour spread bit bytes_right
 byte-bits t s ht hs =

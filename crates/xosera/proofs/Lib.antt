@@ -2,6 +2,7 @@
 -- what is done to it, and what then holds, as `stepped-in-range` or `launched-left`.
 pub mod Branches
 pub mod Tables
+pub mod FilledLists
 pub mod Quotients
 pub mod Computing
 pub mod ExamplesHold

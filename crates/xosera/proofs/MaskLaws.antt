@@ -2,9 +2,9 @@
 use mathlib.Core.Path.{◌≡◌, refl}
 use mathlib.Core.List.{List}
 use mathlib.Core.Logic.{◌≢◌}
-use Prim.Native.Nat.{ℕ, ◌+◌, ◌*◌, ◌/◌, ◌%◌, ◌^◌, ◌<◌}
+use Prim.Native.Nat.{ℕ, ◌+◌, ◌*◌, ◌/◌, ◌%◌, ◌^◌, ◌≤◌, ◌<◌}
 use native.Mathlib.Omega.{arith}
-use native.Mathlib.Nat.{mod-lt, mod-eq_of_lt, div-one, div-div-eq-div-mul}
+use native.Mathlib.Nat.{mod-lt, mod-eq_of_lt, div-one, div-div-eq-div-mul, mul-le-mul_right}
 use lib.Dec.{eqb}
 use lib.ListN.{length, get_or, set}
 use lib.Seq.{get_or-set_same, get_or-set_other}
@@ -27,6 +27,15 @@ merged-none old new h = nibbles-sum old h
 pub merged-all : (old new : ℕ) → new < 65536 → merged 15 old new ≡ new
 unfolding merged chosen bit
 merged-all old new h = nibbles-sum new h
+
+chosen-le : (m old new k : ℕ) → chosen m old new k ≤ 15 * 16 ^ k
+unfolding chosen nibble
+chosen-le m old new k =
+    mul-le-mul_right (16 ^ k) (cond_either (λ (n : ℕ). n ≤ 15) (bit k m) (nibble k new) (nibble k old) (omega arith) (omega arith))
+
+pub merged-lt : (m old new : ℕ) → merged m old new < 65536
+unfolding merged
+merged-lt m old new = omega (arith, chosen-le m old new 3, chosen-le m old new 2, chosen-le m old new 1, chosen-le m old new 0)
 
 -- What holds of VRAM as it is, and with one word merged, holds of it after a store.
 pub stored-either : (P : List ℕ → Type 0) (s : Store) (v : List ℕ) →

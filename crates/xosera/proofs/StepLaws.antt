@@ -9,7 +9,7 @@ use Rattle.xosera.specs.declared.BlitRegs.{BlitRegs}
 use Rattle.xosera.specs.State.{is_set}
 use Rattle.xosera.specs.Adapter.{Adapter, state_of}
 use Rattle.xosera.specs.Blitter.{launched, fetched, sourced, drawing, last_step, stepped, steps}
-use Rattle.xosera.specs.Blitter.{step_mask, blit_words, words_left}
+use Rattle.xosera.specs.Blitter.{step_mask, nth_mask, blit_words, words_left}
 use Rattle.xosera.specs.Events.{step, run}
 use Rattle.xosera.specs.Ranges.{Running, in_range}
 use Rattle.xosera.specs.Acts.{given}
@@ -41,6 +41,11 @@ unfolding step_mask drawing
 step-mask-small a =
     let small = write-mask-small a.engine (sourced a.engine (fetched a.engine a.vram)) in
     cond_either (λ (m : ℕ). m ≤ 15) (is_set a.engine.running) _ 0 small (omega arith)
+
+pub nth-mask-small : (n : ℕ) (a : Adapter) → nth_mask n a ≤ 15
+unfolding nth_mask
+nth-mask-small zero a = omega arith
+nth-mask-small (suc n) a = step-mask-small (steps n a)
 
 -- Words left: none when idle, some while running, and one less after each step.
 module _ (a : Adapter) (h : in_range (state_of a) ≡ true) where

@@ -64,6 +64,17 @@ abbrev read_by : Option ℕ → ℕ → (ℕ → ℕ) → ℕ
 read_by (Some i) none word = word i
 read_by None none word = none
 
+-- In one equation, of any words, for all registers but those three.
+pub read_at : (word : ℕ → ℕ) (a : ℕ) → a < 0x20 → (a ≡ 0x15 → ⊥) → (a ≡ 0x1D → ⊥) → (a ≡ 3 → ⊥)
+    → read_by (register_place a) 0 word ≡ register_read (state_by word).video (state_by word).beam a
+unfolding register_place within register_read playfield_read
+read_at word a h n m l =
+    rw (ne_eqb a 0x15 n, ne_eqb a 0x1D m, ne_eqb a 3 l) at
+    (firsts_same
+    (λ (k : ℕ). cond (eqb k 0x15 || eqb k 0x1D || eqb k 3) 0 (read_by (register_place k) 0 word))
+    (λ (k : ℕ). cond (eqb k 0x15 || eqb k 0x1D || eqb k 3) 0 (register_read (state_by word).video (state_by word).beam k))
+    0x20 refl a (λ o. absurd (omega arith)))
+
 module _ (ws : List ℕ) (a : ℕ) where
   abbrev read : ℕ → ℕ
   read k = register_read (state_by (word_at ws)).video (state_by (word_at ws)).beam k
