@@ -54,8 +54,8 @@ pub fn read_byte(
 {
     let beam = ranges::beam_in_range(s);
     let registers = ranges::registers_in_range(s);
-    let named = refusals::read_refusal(s, registers, beam, vram.len(), xr.len(), reg)?;
-    let byte = host_reads::byte_read(s, named, odd);
+    refusals::read_refusal(s, registers, beam, vram.len(), xr.len(), reg)?;
+    let byte = host_reads::byte_read(s, reg, odd);
     access::read(s, vram, xr.as_array().unwrap(), reg, odd);
     Ok(byte)
 }

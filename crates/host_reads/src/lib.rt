@@ -82,12 +82,15 @@ fn low_byte(s: &StateWords, reg: MainRegister) -> u8
     }
 }
 
-// The byte of a read.
+// The byte of a read. It answers for every number, as `access::read` does: 0 for those of no register.
 #[tactic(auto, unfolding(xosera::specs::Acts::given))]
-pub fn byte_read(s: &StateWords, reg: MainRegister, odd: bool) -> u8
+pub fn byte_read(s: &StateWords, reg: u8, odd: bool) -> u8
     requires { in_range (state_at s.now) ≡ true }
-    ensures { (v x : List ℕ) → result ≡ given (adapter_at s.now v x) (call (read (main_number reg) odd)) }
+    ensures { (v x : List ℕ) → result ≡ given (adapter_at s.now v x) (call (read reg odd)) }
 {
+    let Ok(reg) = MainRegister::try_from(reg) else {
+        return 0;
+    };
     if odd {
         low_byte(s, reg)
     } else {

@@ -3,14 +3,14 @@ use Rattle.std.proofs.Common.{◌≡◌, arith}
 use Rattle.xosera.specs.HostBytes.{read_byte}
 use Rattle.access.proofs.read.Goals as goal
 
-pub returns-in-Ok-Timer-false : goal.returns-in-Ok-Timer-false
+pub returns-in-false-Ok-Timer : goal.returns-in-false-Ok-Timer
 unfolding read_byte
-returns-in-Ok-Timer-false c =
+returns-in-false-Ok-Timer c =
     let reg : c.args.reg ≡ 2 = grind arith in
-    rw (c.in-Ok-Timer-false.is-1, reg) (c.save.ensures _ _)
+    rw (c.in-false-Ok-Timer.is-0, reg) (c.save.ensures _ _)
 
-pub returns-in-Ok-Xdata-true : goal.returns-in-Ok-Xdata-true
+pub returns-in-true-Ok-Xdata : goal.returns-in-true-Ok-Xdata
 unfolding read_byte
-returns-in-Ok-Xdata-true c =
+returns-in-true-Ok-Xdata c =
     let reg : c.args.reg ≡ 5 = grind arith in
-    rw (c.in-Ok-Xdata-true.is-1, reg) (c.read.ensures _)
+    rw (c.in-true-Ok-Xdata.is-0, reg) (c.read.ensures _)
