@@ -93,7 +93,7 @@ test: test-c test-rust test-install
 # Runs $(1) and prints its last line, or all that did not go well.
 run_tests = $(1) >$(2) 2>&1 || { grep -v -e ' RUN ' -e ' OK ' $(2); exit 1; }; tail -n 1 $(2)
 
-test-c: test-headers test-compile test-docs test-replay test-plain test-clang test-sanitized test-valgrind test-examples
+test-c: test-headers test-names test-compile test-docs test-replay test-plain test-clang test-sanitized test-valgrind test-examples
 
 # All C tests, by compiler and checker. Each run has a folder of its own, since the tests write files, so `make -j` does several at
 # once.
@@ -137,6 +137,12 @@ test-examples: $(EXAMPLES)
 	@rm -f build/quick.saved
 	@printf 'examples/boot: '
 	@$(call run_tests,{ build/boot build/quick.saved 1 && build/boot build/quick.saved 1; },build/boot.log)
+
+# What the library takes from outside: no name but memset's, which compilers call by themselves.
+.PHONY: test-names
+test-names: $(LIB)
+	@nm -u $(LIB) | awk '$$1 == "U" && $$2 != "memset" { print "$(LIB) needs " $$2; bad = 1 } END { exit bad }'
+	@echo "library: needs no name from outside but memset"
 
 # What must not compile beside the header, or with it.
 .PHONY: test-compile

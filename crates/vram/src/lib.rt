@@ -29,12 +29,14 @@ pub fn place(a: VramAddr, n: usize) -> usize
     (a.0 as usize) & (n - 1)
 }
 
-// Copies a memory to another that is as long.
+// Copies a memory to another that is as long. By `copy_from_slice` the library for C would need `memmove` from outside.
 pub fn copy(from: &[u16], to: &mut [u16])
     requires { length from.now ≡ length to.old }
     ensures { to.new ≡ from.now }
 {
-    to.copy_from_slice(from);
+    for (i, word) in from.iter().enumerate() {
+        to[i] = *word;
+    }
 }
 
 pub fn read_word(vram: &[u16], a: VramAddr) -> u16
