@@ -2,7 +2,7 @@
 use crate::registers::*;
 use xosera::{Done, MainRegister, Refusal, STATE_WORDS, StateWords, XR_WORDS, XrWords};
 
-#[derive(Drop)]
+#[derive(Clone, Copy)]
 pub struct Bench {
     state: StateWords,
     vram: [u16; 256],

@@ -3,10 +3,20 @@ use std::{fmt, io};
 use xosera::Refusal;
 
 // Why the program ends before its last row: it cannot print, or a call was refused that no row expects to be.
-#[derive(Debug, Drop)]
+#[derive(Drop)]
 pub enum Stopped {
     Printing(io::Error),
     Refused(Refusal),
+}
+
+// What `main` ends with is printed by this: where printing fails, the error as it is.
+impl fmt::Debug for Stopped {
+    fn fmt<W: fmt::Write>(&self, f: &mut fmt::Formatter<W>) -> fmt::Result {
+        match self {
+            Stopped::Printing(error) => fmt::Debug::fmt(error, f),
+            Stopped::Refused(refused) => fmt::Debug::fmt(refused, f),
+        }
+    }
 }
 
 impl From<io::Error> for Stopped {
@@ -22,7 +32,7 @@ impl From<Refusal> for Stopped {
 }
 
 // How many rows were as they should be.
-#[derive(Drop)]
+#[derive(Clone, Copy)]
 pub struct Table {
     pub good: u64,
 }
