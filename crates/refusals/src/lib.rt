@@ -58,7 +58,9 @@ pub fn lent_refusal(
     state_refusal(s, registers, beam)
 }
 
-// The same with all ranges tested here, for a save, a load and a painted line, which take so long that this does not matter.
+// The same with all ranges tested here, for a save, a load and a painted line, which take so long that this does not matter. Always
+// inlined, as the tests are in every other call: a refused save or load, and a blank line, take no longer for it.
+#[inline(always)]
 pub fn tested_refusal(s: &StateWords, vram: usize, xr: usize) -> Result<(), Refusal>
     ensures { refused result ≡ lent_refusal vram xr (state_at s.now) }
 {
