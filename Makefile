@@ -140,8 +140,8 @@ test-examples: $(EXAMPLES)
 
 # What the library takes from outside: no name but memset's, which compilers call by themselves.
 .PHONY: test-names
-test-names: $(LIB)
-	@nm -u $(LIB) | awk '$$1 == "U" && $$2 != "memset" { print "$(LIB) needs " $$2; bad = 1 } END { exit bad }'
+test-names: $(LIB) | build
+	@nm -u $(LIB) >build/needs && awk '$$1 == "U" && $$2 != "memset" { print "$(LIB) needs " $$2; bad = 1 } END { exit bad }' build/needs
 	@echo "library: needs no name from outside but memset"
 
 # What must not compile beside the header, or with it.

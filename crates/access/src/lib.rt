@@ -73,7 +73,7 @@ pub fn write(
 }
 
 // What a byte read does besides giving its byte; of a number over 15 nothing. It may not ask for a register: it answers for all numbers,
-// as `byte_read` does (docs/DECISIONS.md). `odd` is asked first: by the register first a byte read takes a tenth more instructions.
+// as `byte_read` does (docs/DECISIONS.md). `odd` is asked first: by the register first a byte read takes up to a tenth more instructions.
 #[tactic(auto, unfolding(xosera::specs::Memories::stored, xosera::specs::Plan::changed, xosera::specs::Plan::perform, xosera::specs::HostBytes::read_byte))]
 pub fn read(s: &mut StateWords, vram: &[u16], xr: &XrWords, reg: u8, odd: bool)
     requires { is_vram_length (length vram.now) ≡ true }
