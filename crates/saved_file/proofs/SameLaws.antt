@@ -1,5 +1,5 @@
 -- Bytes compared one by one.
-use mathlib.Core.Path.{◌≡◌, refl, ap, ap₂}
+use mathlib.Core.Path.{◌≡◌, refl, subst, ap, ap₂}
 use mathlib.Core.Bool.{Bool, true, false, ◌&&◌, and-eq-true_iff, false≢true}
 use mathlib.Core.List.{List, [], ◌∷◌, ◌++◌}
 use Prim.Native.Nat.{ℕ}
@@ -8,6 +8,7 @@ use borrow.Author.Tests.{eq-eqb, eqb-true}
 use lib.Dec.{eqb}
 use lib.ListN.{length}
 use lib.Pointwise.{pointwise}
+use Rattle.std.specs.Bool.{Decides}
 use Rattle.saved_file.specs.SavedFile.{same_bytes}
 
 -- It is std's test of two slices of bytes.
@@ -30,6 +31,9 @@ same-equal [] [] h = refl
 same-equal [] (y ∷ b) h = absurd (false≢true h)
 same-equal (x ∷ a) [] h = absurd (false≢true h)
 same-equal (x ∷ a) (y ∷ b) h = let k = simp and-eq-true_iff at h in ap₂ ◌∷◌ (eqb-true x y k.0) (same-equal a b k.1)
+
+pub same_decides : (a b : List ℕ) → Decides (same_bytes a b) (a ≡ b)
+same_decides a b = (same-equal a b, λ e. subst (λ t. same_bytes a t ≡ true) e (same_refl a))
 
 -- Both parts, where the first ones are of one length.
 pub same-append : (a c b d : List ℕ) → length a ≡ length b → same_bytes (a ++ c) (b ++ d) ≡ (same_bytes a b && same_bytes c d)
