@@ -1,5 +1,5 @@
 -- A list being played: i of its events are behind, each answered in its place, and the rest are ahead.
-use mathlib.Core.Path.{◌≡◌, refl, sym, ap, ap₂, ◌∙◌}
+use mathlib.Core.Path.{◌≡◌, refl, sym, subst, ap, ap₂, ◌∙◌}
 use mathlib.Core.List.{List, [], ◌∷◌, ◌++◌, append_assoc, append-nil}
 use Prim.Native.Nat.{ℕ, ◌+◌, ◌≤◌, ◌<◌}
 use lib.ListN.{length, get_or, take, drop, set}
@@ -42,6 +42,12 @@ playing-on {a} {b} {c} {es} {i} {rs} e r p more room d =
           ∙ ap (λ (l : List Event). behind ++ all_answers b l) (sym next)
           ∙ p.behind;
     }
+
+-- The same where an equation says which event was played, and another which answer was put.
+pub playing-put : {a b c : Adapter} {es : List Code.Event} {i : ℕ} {rs : List (Result Gave Refusal)} (e : Code.Event) (r q : Result Gave Refusal)
+    → Playing a es b i rs → i < length es → i < length rs → Does b (of_event e) (of_gave r) c → e ≡ get_or es i e → q ≡ r → Playing a es c (i + 1) (set rs i q)
+playing-put {b} {c} e r q p more room d played put =
+    rw put (playing-on e r p more room (subst (λ (v : Code.Event). Does b (of_event v) (of_gave r) c) played d))
 
 pub playing-done : {a b : Adapter} {es : List Code.Event} {i : ℕ} {rs : List (Result Gave Refusal)} → Playing a es b i rs
     → length es ≤ i → length rs ≤ i → Played a (of_events es) (of_answers rs) b
